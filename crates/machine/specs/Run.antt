@@ -47,16 +47,16 @@ lift wrap out worse (go s f) = go (wrap s) f
 lift wrap out worse (done r f) = out r f
 lift wrap out worse (bad x l) = worse x l
 
--- A number of bytes, by structure: `keep` is what each byte leaves in what flows.
+-- A number of bytes, by structure: `keep` is what a byte leaves in what flows, told how many bytes of the number follow it.
 module _ {R F L : Type 0} (left : F → L) (keep : F → ℕ → ℕ → F) (k : ℕ → F → ℕ → List ℕ → Res R F L) where
   unfoldable pub fieldD : ℕ → ℕ → F → ℕ → List ℕ → Res R F L
   fieldD zero acc f n bs = k acc f n bs
   fieldD (suc m) acc f n [] = cut (left f) n
-  fieldD (suc m) acc f n (b ∷ bs) = fieldD m (acc * 256 + b) (keep f n b) (suc n) bs
+  fieldD (suc m) acc f n (b ∷ bs) = fieldD m (acc * 256 + b) (keep f m b) (suc n) bs
 
 -- a byte leaves nothing
 abbrev pub plain : {F : Type 0} → F → ℕ → ℕ → F
-plain f n b = f
+plain f m b = f
 
 -- bytes that are not looked at, up to a place
 unfoldable pub skipD : {F L : Type 0} → (F → L) → ℕ → F → ℕ → List ℕ → Res (Unit {0}) F L

@@ -1,0 +1,6 @@
+pub mod Faults
+pub mod Runs
+pub mod Fields
+pub mod Heads
+pub mod Lists
+pub mod Limits

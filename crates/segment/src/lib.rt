@@ -1,0 +1,1 @@
+// What a segment is: definitions only.

@@ -1,0 +1,9 @@
+pub mod Flow
+pub mod Rows
+pub mod Opening
+pub mod Sidx
+pub mod Traf
+pub mod Leaf
+pub mod Levels
+pub mod Stages
+pub mod Step

@@ -1,0 +1,146 @@
+-- The segment: the boxes up to the top index, the gap, and what the entries cover.
+use Prim.Native.Nat.{ℕ, zero, suc, _+_, _-_}
+use mathlib.Core.List.{List, [], _∷_}
+use mathlib.Core.Option.{Option, some, none}
+use mathlib.Core.Bool.{Bool, true, false}
+use lib.Dec.{eqb, leb}
+use Rattle.basics.specs.Choose.{pick}
+use Rattle.machine.specs.Faults.{unless}
+use Rattle.machine.specs.Run.{Sub, go, done, bad, lift}
+use Rattle.machine.specs.Heads.{boxEnd}
+use Rattle.machine.specs.Lists.{Box, inHead, inBody, Kind, stepBox, Next, again, over, Boxes, stepBoxes}
+use Rattle.machine.specs.declared.Header.{Header}
+use Rattle.machine.specs.declared.Head.the-variants as at
+use Rattle.state.specs.declared.Span.{Span}
+use Rattle.state.specs.declared.Top.{Top}
+use Rattle.state.specs.declared.Level.{Level}
+use Rattle.state.specs.declared.Levels.{Levels}
+use Rattle.state.specs.declared.Levels.the-variants as levels
+use Rattle.state.specs.declared.Slot.{Slot}
+use Rattle.state.specs.declared.Index.{Index}
+use Rattle.state.specs.declared.Sidx.{Sidx}
+use Rattle.state.specs.declared.OpeningBoxes.{OpeningBoxes}
+use Rattle.state.specs.declared.OpeningBoxes.the-variants as openings
+use Rattle.state.specs.declared.GapBoxes.{GapBoxes}
+use Rattle.state.specs.declared.GapBoxes.the-variants as gaps
+use Rattle.state.specs.declared.InnerBox.{InnerBox}
+use Rattle.state.specs.declared.InnerBox.the-variants as inners
+use Rattle.state.specs.declared.LeafBoxes.{LeafBoxes}
+use Rattle.state.specs.declared.LeafBoxes.the-variants as leafBox
+use Rattle.state.specs.declared.Stage.{Stage}
+use Rattle.state.specs.declared.Stage.the-variants as stage
+use Rattle.state.specs.Flow.{Flow, Left, left, withNow, listed}
+use Rattle.state.specs.Rows.{gapFaults, innerFaults}
+use Rattle.state.specs.Opening.{spanOf, stepOpening}
+use Rattle.state.specs.Sidx.{Place, under, sidxStart, stepSidx}
+use Rattle.state.specs.Leaf.{leafSo0, stepLeaf}
+use Rattle.state.specs.Levels.{Entry, entryAt, entryPlace, inmost, depth, tookEntry, push, stillOpen, entryFaults, slotOf}
+
+abbrev Sub' : Type 0
+Sub' = Sub Stage Top Flow Left
+
+-- The gap: only skipped boxes.
+abbrev pub skipGap : ℕ → Flow → ℕ → Sub ℕ (Unit {0}) Flow Left
+skipGap stop f n = pick (leb stop n) (done tt f) (go stop f)
+
+abbrev pub gapKind : ℕ → Kind ℕ (Unit {0}) Flow Left
+gapKind end =
+    record { left = left; end = end; shown = λ h f. gapFaults h; begin = λ h f n. skipGap (boxEnd h) f n; body = λ stop f n b. skipGap stop f (suc n) }
+
+unfoldable pub gapNext : ℕ → ℕ → Next (Unit {0}) (Unit {0})
+gapNext end n = pick (eqb n end) (over tt []) (again tt)
+
+abbrev pub gapBoxes : ℕ → Boxes (Unit {0}) ℕ (Unit {0}) (Unit {0}) Flow Left
+gapBoxes end = record { kept = left; box = λ u. gapKind end; close = λ u r f n. gapNext end n; beside = λ u kept n. [] }
+
+abbrev pub wrapGap : Unit {0} → Box ℕ → GapBoxes
+wrapGap u (inHead h) = gaps.Head h
+wrapGap u (inBody stop) = gaps.Body stop
+
+unfoldable pub stepGap : ℕ → GapBoxes → Flow → ℕ → ℕ → Sub GapBoxes (Unit {0}) Flow Left
+stepGap end (gaps.Head h) f n b = stepBoxes (gapBoxes end) wrapGap tt (inHead h) f n b
+stepGap end (gaps.Body stop) f n b = stepBoxes (gapBoxes end) wrapGap tt (inBody stop) f n b
+
+-- What the top index says of the segment; where and when its material ends. It ends at byte n.
+abbrev pub topOf : Index → Top
+topOf x = record { id = x .id; scale = x .scale; start = x .time; durations = x .durations }
+
+abbrev pub topLevel : Index → ℕ → Level
+topLevel x n = record { next = 0; count = x .count; end = n + x .offset + x .sizes; until = x .time + x .durations }
+
+-- "The material starts at the end of the top index plus its first offset."
+unfoldable pub indexEnds : Index → Flow → ℕ → Sub'
+indexEnds x f n =
+    pick (eqb (x .offset) 0)
+    (go (stage.Entry (topOf x) (levels.One (topLevel x n))) (withNow f (x .time)))
+    (go (stage.Gap (topOf x) (topLevel x n) (n + x .offset) (gaps.Head at.First)) (withNow f (x .time)))
+
+-- The first box of an index entry: an inner index, with the entry's size and duration to fill.
+pub record InnerBody : Type 0 where
+  pub span : Span
+  pub sidx : Sidx
+
+abbrev pub liftSidx : Span → Sub Sidx Index Flow Left → Sub InnerBody Index Flow Left
+liftSidx span r = lift (λ s. record { span = span; sidx = s }) done bad r
+
+abbrev pub beginInner : Header → Flow → ℕ → Sub InnerBody Index Flow Left
+beginInner h f n = go (record { span = spanOf h; sidx = sidxStart }) f
+
+abbrev pub innerKind : Top → Slot → ℕ → Kind InnerBody Index Flow Left
+innerKind top slot around =
+    record {
+      left = left;
+      end = slot .end;
+      shown = λ h f. innerFaults around h;
+      begin = beginInner;
+      body = λ s f n b. liftSidx (s .span) (stepSidx (under top slot around) (s .span) (s .sidx) f n b);
+    }
+
+abbrev pub wrapInner : Box InnerBody → InnerBox
+wrapInner (inHead h) = inners.Head h
+wrapInner (inBody s) = inners.Body (s .span) (s .sidx)
+
+abbrev pub innerLevel : Index → Slot → Level
+innerLevel x slot = record { next = 0; count = x .count; end = slot .end; until = slot .until }
+
+-- after an inner index its entries follow
+abbrev pub liftInner : Top → Levels → Slot → Sub (Box InnerBody) Index Flow Left → Sub'
+liftInner top ls slot r =
+    lift (λ s. stage.Inner top ls slot (wrapInner s)) (λ x f. go (stage.Entry top (push ls (innerLevel x slot))) f) bad r
+
+abbrev pub stepInner : Top → Levels → Slot → Box InnerBody → Flow → ℕ → ℕ → Sub'
+stepInner top ls slot s f n b = liftInner top ls slot (stepBox (innerKind top slot (depth ls)) s f n b)
+
+-- what is left when a leaf or an index ends: the next entry, or the end of the material
+unfoldable pub onward : Top → Option Levels → Flow → Sub'
+onward top none f = done top f
+onward top (some ls) f = go (stage.Entry top ls) f
+
+-- a leaf's record: position, size, start, duration, SAP word, first decode time of the reference track
+abbrev pub leafRow : Slot → ℕ → ℕ → List ℕ
+leafRow slot now first = slot .pos ∷ (slot .end - slot .pos) ∷ now ∷ (slot .until - now) ∷ slot .sap ∷ first ∷ []
+
+abbrev pub liftLeaf : Top → Levels → Slot → Sub LeafBoxes ℕ Flow Left → Sub'
+liftLeaf top ls slot r =
+    lift (stage.Leaf top ls slot) (λ first f. onward top (stillOpen ls) (listed f (leafRow slot (f .now) first) (slot .until))) bad r
+
+abbrev pub stepInLeaf : Top → Levels → Slot → LeafBoxes → Flow → ℕ → ℕ → Sub'
+stepInLeaf top ls slot s f n b = liftLeaf top ls slot (stepLeaf (top .id) slot s f n b)
+
+-- an entry, at its first byte: type 0 is a leaf, type 1 covers an inner index
+unfoldable pub stepSlot : Top → Levels → Bool → Slot → Flow → ℕ → ℕ → Sub'
+stepSlot top ls true slot f n b = stepInner top ls slot (inHead at.First) f n b
+stepSlot top ls false slot f n b = stepInLeaf top ls slot (leafBox.Head leafSo0 at.First) f n b
+
+-- "An entry is read back from the work area when its first byte comes."
+unfoldable pub stepEntry : Top → Levels → Entry → Flow → ℕ → ℕ → Sub'
+stepEntry top ls e f n b =
+    unless (entryFaults (inmost ls) e (f .now) n) (λ x. bad x (left f)) (stepSlot top (tookEntry ls) (e .inner) (slotOf e (f .now) n) f n b)
+
+unfoldable pub stepStage : Stage → Flow → ℕ → ℕ → Sub'
+stepStage (stage.Opening brand s) f n b = lift (stage.Opening brand) (λ x g. indexEnds x g (suc n)) bad (stepOpening brand s f n b)
+stepStage (stage.Gap top l end s) f n b = lift (stage.Gap top l end) (λ u g. go (stage.Entry top (levels.One l)) g) bad (stepGap end s f n b)
+stepStage (stage.Entry top ls) f n b = stepEntry top ls (entryAt (f .work) (entryPlace ls)) f n b
+stepStage (stage.Leaf top ls slot s) f n b = stepInLeaf top ls slot s f n b
+stepStage (stage.Inner top ls slot (inners.Head h)) f n b = stepInner top ls slot (inHead h) f n b
+stepStage (stage.Inner top ls slot (inners.Body span s)) f n b = stepInner top ls slot (inBody (record { span = span; sidx = s })) f n b

@@ -1,0 +1,51 @@
+-- One byte of a segment, and Run, its fold over the bytes.
+use Prim.Native.Nat.{ℕ, zero, suc, _+_, _*_}
+use mathlib.Core.List.{List, [], _∷_, _++_}
+use mathlib.Core.Bool.{false}
+use lib.Dec.{eqb}
+use Rattle.segment.specs.Constants.{limit}
+use Rattle.machine.specs.Faults.{shows, refusal, unless, lowest}
+use Rattle.machine.specs.Run.{Sub, go, done, bad}
+use Rattle.machine.specs.declared.Refusal.{Refusal}
+use Rattle.machine.specs.declared.Head.the-variants as at
+use Rattle.state.specs.declared.OpeningBoxes.the-variants as openings
+use Rattle.state.specs.declared.Stage.{Stage}
+use Rattle.state.specs.declared.Stage.the-variants as stage
+use Rattle.state.specs.declared.Top.{Top}
+use Rattle.state.specs.Flow.{Flow, Left, left}
+use Rattle.state.specs.Stages.{stepStage}
+
+-- A reading with the two buffers lent to it: in the segment, at the end of its material, or refused; and the count of bytes read.
+pub data World : Type 0 where
+  reading : ℕ → Stage → Flow → World
+  ended : ℕ → Top → Left → World
+  refused : ℕ → Refusal → Left → World
+
+unfoldable pub settle : ℕ → Sub Stage Top Flow Left → World
+settle n (go s f) = reading n s f
+settle n (done top f) = ended n top (left f)
+settle n (bad x kept) = refused n x kept
+
+-- row 3: byte 268,435,457 of the segment; place 268,435,456
+abbrev pub pastLimit : ℕ → List Refusal
+pastLimit n = shows (eqb n limit) 3 limit
+
+-- row 21: byte after the material; place that byte
+abbrev pub pastMaterial : ℕ → Refusal
+pastMaterial n = refusal 21 n
+
+unfoldable pub step : World → ℕ → World
+step (reading n s f) b = unless (pastLimit n) (λ x. refused (suc n) x (left f)) (settle (suc n) (stepStage s f n b))
+step (ended n top kept) b = refused (suc n) (lowest (pastMaterial n) (pastLimit n)) kept
+step (refused n x kept) b = refused n x kept
+
+-- Run: the bytes one after the other
+unfoldable pub run : World → List ℕ → World
+run w [] = w
+run w (b ∷ bs) = run (step w b) bs
+
+abbrev pub stage0 : ℕ → Stage
+stage0 brand = stage.Opening brand (openings.Head false at.First)
+
+abbrev pub flow0 : List ℕ → List ℕ → Flow
+flow0 work table = record { leaves = 0; now = 0; last = 0; work = work; table = table }
