@@ -7,3 +7,5 @@ pub mod Leaf
 pub mod Levels
 pub mod Stages
 pub mod Step
+pub mod Ranges
+pub mod Calls

@@ -1,0 +1,4 @@
+pub mod Sidx
+pub mod Opening
+pub mod Leaf
+pub mod Whole

@@ -1,0 +1,1 @@
+// The segment read by structure: definitions only.
