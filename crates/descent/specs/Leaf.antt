@@ -31,7 +31,7 @@ Gave' = Res Gave Flow Left
 -- `tfhd`: version and flags, track ID; the rest is ignored
 unfoldable pub tfhdD : ℕ → ℕ → Flow → ℕ → List ℕ → Gave'
 tfhdD id end f n bs =
-  fieldD left plain (λ flags g m cs. fieldD left plain (λ v h k ds. skipTo (headed (eqb v id)) end h k ds) 4 0 g m cs) 4 0 f n bs
+    fieldD left plain (λ flags g m cs. fieldD left plain (λ v h k ds. skipTo (headed (eqb v id)) end h k ds) 4 0 g m cs) 4 0 f n bs
 
 -- a decode time, which is looked at in the reference track
 unfoldable pub timeD : Bool → ℕ → ℕ → Flow → ℕ → List ℕ → Gave'
@@ -46,30 +46,30 @@ widthD false r pos f n bs = fieldD left plain (λ v g m cs. timeD r pos v g m cs
 -- `tfdt`: version, flags, decode time
 unfoldable pub tfdtD : Bool → ℕ → ℕ → Flow → ℕ → List ℕ → Gave'
 tfdtD r pos end f n bs =
-  fieldD left plain
-  (λ v g m cs.
+    fieldD left plain
+    (λ v g m cs.
     unless (versionFaults pos end v m) (λ x. fail x (left g) m) (fieldD left plain (λ flags h k ds. widthD (eqb v 1) r pos h k ds) 3 0 g m cs))
-  1 0 f n bs
+    1 0 f n bs
 
 unfoldable pub trafBodyD : ℕ → Track → Header → Flow → ℕ → List ℕ → Gave'
 trafBodyD id t h f n bs =
-  pick (is h tfhd) (tfhdD id (boxEnd h) f n bs)
-  (pick (is h tfdt) (tfdtD (reference t) (h .pos) (boxEnd h) f n bs) (skipTo nothing (boxEnd h) f n bs))
+    pick (is h tfhd) (tfhdD id (boxEnd h) f n bs)
+    (pick (is h tfdt) (tfdtD (reference t) (h .pos) (boxEnd h) f n bs) (skipTo nothing (boxEnd h) f n bs))
 
 abbrev pub trafD : ℕ → Span → Seen → Flow → ℕ → List ℕ → Res Seen Flow Left
 trafD id span seen f n bs =
-  goOnD (trafBoxes id span) (λ so. trafBodyD id (so .track)) (boxesD (trafBoxes id span) (λ so. trafBodyD id (so .track)) (length bs)) (trafNext span (trafSo0 seen) n) f n bs
+    goOnD (trafBoxes id span) (λ so. trafBodyD id (so .track)) (boxesD (trafBoxes id span) (λ so. trafBodyD id (so .track)) (length bs)) (trafNext span (trafSo0 seen) n) f n bs
 
 unfoldable pub moofBodyD : ℕ → Seen → Header → Flow → ℕ → List ℕ → Res Passed Flow Left
 moofBodyD id seen h f n bs =
-  pick (is h traf) (after (trafD id (spanOf h) seen f n bs) (λ s g m cs. okay (seeing s) g m cs)) (skipTo skipped (boxEnd h) f n bs)
+    pick (is h traf) (after (trafD id (spanOf h) seen f n bs) (λ s g m cs. okay (seeing s) g m cs)) (skipTo skipped (boxEnd h) f n bs)
 
 abbrev pub moofD : ℕ → ℕ → Seen → Flow → ℕ → List ℕ → Res Seen Flow Left
 moofD id end seen f n bs = goOnD (moofBoxes id end) (moofBodyD id) (boxesD (moofBoxes id end) (moofBodyD id) (length bs)) (moofNext end seen n) f n bs
 
 unfoldable pub leafBodyD : ℕ → Seen → Header → Flow → ℕ → List ℕ → Res Passed Flow Left
 leafBodyD id seen h f n bs =
-  pick (is h moof) (after (moofD id (boxEnd h) seen f n bs) (λ s g m cs. okay (seeing s) g m cs)) (skipTo skipped (boxEnd h) f n bs)
+    pick (is h moof) (after (moofD id (boxEnd h) seen f n bs) (λ s g m cs. okay (seeing s) g m cs)) (skipTo skipped (boxEnd h) f n bs)
 
 -- a leaf from its first byte on, with its first decode time of the reference track
 abbrev pub leafD : ℕ → Slot → Flow → ℕ → List ℕ → Res ℕ Flow Left

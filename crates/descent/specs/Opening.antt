@@ -27,18 +27,18 @@ skipTo r stop f n bs = after (skipD left (stop - n) f n bs) (λ u g m cs. okay r
 unfoldable pub brandsD : ℕ → ℕ → Span → Bool → Flow → ℕ → List ℕ → Res Opened Flow Left
 brandsD zero brand span found f n bs = cut (left f) n
 brandsD (suc turns) brand span found f n bs =
-  pick (eqb n (span .end)) (unless (unlisted span found) (λ x. fail x (left f) n) (okay passed f n bs))
-  (fieldD left plain (λ v g m cs. brandsD turns brand span (found || eqb v brand) g m cs) 4 0 f n bs)
+    pick (eqb n (span .end)) (unless (unlisted span found) (λ x. fail x (left f) n) (okay passed f n bs))
+    (fieldD left plain (λ v g m cs. brandsD turns brand span (found || eqb v brand) g m cs) 4 0 f n bs)
 
 -- `styp`: major brand, minor version, compatible brands
 unfoldable pub stypD : ℕ → Span → Flow → ℕ → List ℕ → Res Opened Flow Left
 stypD brand span f n bs =
-  fieldD left plain (λ major g m cs. fieldD left plain (λ minor h k ds. brandsD (suc (length ds)) brand span false h k ds) 4 0 g m cs) 4 0 f n bs
+    fieldD left plain (λ major g m cs. fieldD left plain (λ minor h k ds. brandsD (suc (length ds)) brand span false h k ds) 4 0 g m cs) 4 0 f n bs
 
 unfoldable pub openingBodyD : ℕ → Header → Flow → ℕ → List ℕ → Res Opened Flow Left
 openingBodyD brand h f n bs =
-  pick (is h styp) (stypD brand (spanOf h) f n bs)
-  (pick (is h sidx) (after (sidxD topmost (spanOf h) f n bs) (λ x g m cs. okay (indexed x) g m cs)) (skipTo passed (boxEnd h) f n bs))
+    pick (is h styp) (stypD brand (spanOf h) f n bs)
+    (pick (is h sidx) (after (sidxD topmost (spanOf h) f n bs) (λ x g m cs. okay (indexed x) g m cs)) (skipTo passed (boxEnd h) f n bs))
 
 abbrev pub openingD : ℕ → Flow → ℕ → List ℕ → Res Index Flow Left
 openingD brand f n bs = boxesD (opening brand) (λ branded. openingBodyD brand) (suc (length bs)) false f n bs

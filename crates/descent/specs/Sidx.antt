@@ -23,14 +23,14 @@ module _ (p : Place) (span : Span) where
   -- one entry: its size, its duration, its SAP word
   unfoldable pub entryD : (Sums → Flow → ℕ → List ℕ → Res') → Sums → Flow → ℕ → List ℕ → Res'
   entryD more s f n bs =
-    fieldD left (keepByte p entry.Size s)
-    (λ word g m cs.
+      fieldD left (keepByte p entry.Size s)
+      (λ word g m cs.
       unless (sizeFaults span word) (λ x. fail x (left g) m)
       (fieldD left (keepByte p entry.Duration (plusSize s word))
       (λ duration h k ds.
-        fieldD left (keepByte p entry.Sap (plusDuration (plusSize s word) duration)) (λ sap i l es. more (plusDuration (plusSize s word) duration) i l es) 4 0 h k ds)
+      fieldD left (keepByte p entry.Sap (plusDuration (plusSize s word) duration)) (λ sap i l es. more (plusDuration (plusSize s word) duration) i l es) 4 0 h k ds)
       4 0 g m cs))
-    4 0 f n bs
+      4 0 f n bs
 
   -- one entry and so many after it
   unfoldable pub entriesD : Draft → ℕ → Sums → Flow → ℕ → List ℕ → Res'
@@ -50,31 +50,31 @@ module _ (p : Place) (span : Span) where
 
   unfoldable pub offsetD : Draft → ℕ → Flow → ℕ → List ℕ → Res'
   offsetD d v f n bs =
-    unless (offsetFaults p span v) (λ x. fail x (left f) n)
-    (fieldD left plain (reservedD (record { wide = d .wide; id = d .id; scale = d .scale; time = d .time; offset = v })) 2 0 f n bs)
+      unless (offsetFaults p span v) (λ x. fail x (left f) n)
+      (fieldD left plain (reservedD (record { wide = d .wide; id = d .id; scale = d .scale; time = d .time; offset = v })) 2 0 f n bs)
 
   unfoldable pub timeD : Draft → ℕ → Flow → ℕ → List ℕ → Res'
   timeD d v f n bs =
-    unless (timeFaults p span (f .now) v) (λ x. fail x (left f) n)
-    (fieldD left plain (offsetD (record { wide = d .wide; id = d .id; scale = d .scale; time = v; offset = 0 })) (suc (wideMore (d .wide))) 0 f n bs)
+      unless (timeFaults p span (f .now) v) (λ x. fail x (left f) n)
+      (fieldD left plain (offsetD (record { wide = d .wide; id = d .id; scale = d .scale; time = v; offset = 0 })) (suc (wideMore (d .wide))) 0 f n bs)
 
   unfoldable pub scaleD : Draft → ℕ → Flow → ℕ → List ℕ → Res'
   scaleD d v f n bs =
-    unless (scaleFaults p span v) (λ x. fail x (left f) n)
-    (fieldD left plain (timeD (record { wide = d .wide; id = d .id; scale = v; time = 0; offset = 0 })) (suc (wideMore (d .wide))) 0 f n bs)
+      unless (scaleFaults p span v) (λ x. fail x (left f) n)
+      (fieldD left plain (timeD (record { wide = d .wide; id = d .id; scale = v; time = 0; offset = 0 })) (suc (wideMore (d .wide))) 0 f n bs)
 
   unfoldable pub idD : Draft → ℕ → Flow → ℕ → List ℕ → Res'
   idD d v f n bs =
-    unless (idFaults p span v) (λ x. fail x (left f) n)
-    (fieldD left plain (scaleD (record { wide = d .wide; id = v; scale = 0; time = 0; offset = 0 })) 4 0 f n bs)
+      unless (idFaults p span v) (λ x. fail x (left f) n)
+      (fieldD left plain (scaleD (record { wide = d .wide; id = v; scale = 0; time = 0; offset = 0 })) 4 0 f n bs)
 
   unfoldable pub flagsD : Draft → ℕ → Flow → ℕ → List ℕ → Res'
   flagsD d v f n bs = fieldD left plain (idD d) 4 0 f n bs
 
   unfoldable pub versionD : ℕ → Flow → ℕ → List ℕ → Res'
   versionD v f n bs =
-    unless (versionFaults span v n) (λ x. fail x (left f) n)
-    (fieldD left plain (flagsD (record { wide = eqb v 1; id = 0; scale = 0; time = 0; offset = 0 })) 3 0 f n bs)
+      unless (versionFaults span v n) (λ x. fail x (left f) n)
+      (fieldD left plain (flagsD (record { wide = eqb v 1; id = 0; scale = 0; time = 0; offset = 0 })) 3 0 f n bs)
 
   -- the body of a `sidx`
   unfoldable pub sidxD : Flow → ℕ → List ℕ → Res'

@@ -36,8 +36,8 @@ Went = Res (Unit {0}) Flow Left
 -- the gap of first-offset bytes after the top index
 unfoldable pub gapD : ℕ → Flow → ℕ → List ℕ → Went
 gapD offset f n bs =
-  pick (eqb offset 0) (okay tt f n bs)
-  (boxesD (gapBoxes (n + offset)) (λ u h g m cs. skipTo tt (boxEnd h) g m cs) (length bs) tt f n bs)
+    pick (eqb offset 0) (okay tt f n bs)
+    (boxesD (gapBoxes (n + offset)) (λ u h g m cs. skipTo tt (boxEnd h) g m cs) (length bs) tt f n bs)
 
 -- what an index that stands open covers: so many indexes stand open
 abbrev pub Under : Type 0
@@ -51,17 +51,17 @@ innerD top slot depth f n bs = boxD (innerKind top slot depth) (λ h g m cs. sid
 unfoldable pub slotD : Under → Top → ℕ → Bool → Slot → Flow → ℕ → List ℕ → Went
 slotD inner top depth true slot f n bs = after (innerD top slot depth f n bs) (λ x g m cs. inner (suc depth) (innerLevel x slot) g m cs)
 slotD inner top depth false slot f n bs =
-  after (leafD (top .id) slot f n bs) (λ first g m cs. okay tt (listed g (leafRow slot (g .now) first) (slot .until)) m cs)
+    after (leafD (top .id) slot f n bs) (λ first g m cs. okay tt (listed g (leafRow slot (g .now) first) (slot .until)) m cs)
 
 unfoldable pub readBackD : Under → Top → ℕ → Level → Entry → Flow → ℕ → List ℕ → Went
 readBackD inner top depth l e f n bs =
-  unless (entryFaults l e (f .now) n) (λ x. fail x (left f) (suc n)) (slotD inner top depth (e .inner) (slotOf e (f .now) n) f n bs)
+    unless (entryFaults l e (f .now) n) (λ x. fail x (left f) (suc n)) (slotD inner top depth (e .inner) (slotOf e (f .now) n) f n bs)
 
 -- an entry is read back when its first byte comes
 unfoldable pub entryD : Under → Top → ℕ → Level → Flow → ℕ → List ℕ → Went
 entryD inner top depth l f n [] = cut (left f) n
 entryD inner top depth l f n (b ∷ bs) =
-  readBackD inner top depth l (entryAt (f .work) (levelBytes * (depth - 1) + entryBytes * l .next)) f n (b ∷ bs)
+    readBackD inner top depth l (entryAt (f .work) (levelBytes * (depth - 1) + entryBytes * l .next)) f n (b ∷ bs)
 
 -- so many entries, end to end, in order
 unfoldable pub entriesD : Under → Top → ℕ → ℕ → Level → Flow → ℕ → List ℕ → Went
@@ -76,8 +76,8 @@ underD (suc levels) top depth l f n bs = entriesD (λ d l' g m cs. underD levels
 -- what follows the top index
 unfoldable pub materialD : Index → Flow → ℕ → List ℕ → Res Top Flow Left
 materialD x f n bs =
-  after (gapD (x .offset) (withNow f (x .time)) n bs)
-  (λ u g m cs. after (underD 4 (topOf x) 1 (topLevel x n) g m cs) (λ v h k ds. okay (topOf x) h k ds))
+    after (gapD (x .offset) (withNow f (x .time)) n bs)
+    (λ u g m cs. after (underD 4 (topOf x) 1 (topLevel x n) g m cs) (λ v h k ds. okay (topOf x) h k ds))
 
 unfoldable pub segmentD : ℕ → Flow → ℕ → List ℕ → Res Top Flow Left
 segmentD brand f n bs = after (openingD brand f n bs) (λ x g m cs. materialD x g m cs)
@@ -86,8 +86,8 @@ segmentD brand f n bs = after (openingD brand f n bs) (λ x g m cs. materialD x 
 unfoldable pub outcome : Res Top Flow Left → Out FinishAnswer
 outcome (okay top f n []) = out (finishes.Listed (f .leaves)) (state.Accepted n (f .leaves) top) (f .work) (f .table)
 outcome (okay top f n (b ∷ bs)) =
-  let x = lowest (pastMaterial n) (pastLimit n) in
-  out (finishes.Refused x) (state.Refused (suc n) (f .leaves) x) (f .work) (f .table)
+    let x = lowest (pastMaterial n) (pastLimit n) in
+    out (finishes.Refused x) (state.Refused (suc n) (f .leaves) x) (f .work) (f .table)
 outcome (fail x kept n) = out (finishes.Refused x) (state.Refused n (kept .leaves) x) (kept .work) (kept .table)
 outcome (cut kept n) = out (finishes.Refused (refusal 20 n)) (state.Refused n (kept .leaves) (refusal 20 n)) (kept .work) (kept .table)
 
@@ -98,5 +98,5 @@ readD brand bytes work table = beyond (refusal 3 limit) (segmentD brand (flow0 w
 -- The descent: the whole list read by structure; number 1 comes first.
 unfoldable pub wholeD : ℕ → List ℕ → List ℕ → List ℕ → Out FinishAnswer
 wholeD brand bytes work table =
-  pick (ltb (length work) workBytes) (out (finishes.Refused (refusal 1 0)) (startOf brand) work table)
-  (outcome (readD brand bytes work table))
+    pick (ltb (length work) workBytes) (out (finishes.Refused (refusal 1 0)) (startOf brand) work table)
+    (outcome (readD brand bytes work table))

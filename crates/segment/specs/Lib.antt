@@ -1,1 +1,4 @@
 pub mod Constants
+pub mod Boxes
+pub mod Leaves
+pub mod Tree

@@ -1,1 +1,1 @@
-// What a segment is: definitions only.
+// Which bytes are a segment, and with which leaves: definitions only, in specs/.

@@ -75,8 +75,8 @@ feedState (state.Accepted n leaves top) piece work table = out (feeds.Refused (r
 -- "Feed checks 1, 2, the kept refusal, 22, then bytes."
 unfoldable pub feedOf : State → List ℕ → List ℕ → List ℕ → Out FeedAnswer
 feedOf s piece work table =
-  pick (ltb (length work) workBytes) (out (feeds.Refused (refusal 1 0)) s work table)
-  (pick (inRange s) (feedState s piece work table) (out (feeds.Refused (refusal 2 0)) s work table))
+    pick (ltb (length work) workBytes) (out (feeds.Refused (refusal 1 0)) s work table)
+    (pick (inRange s) (feedState s piece work table) (out (feeds.Refused (refusal 2 0)) s work table))
 
 -- What finish answers, and the state that it leaves; it is lent no buffer.
 pub record Finished : Type 0 where
@@ -104,5 +104,5 @@ finishAfter o (feeds.Refused x) = out (finishes.Refused x) (o .state) (o .work) 
 
 abbrev pub wholeOf : ℕ → List ℕ → List ℕ → List ℕ → Out FinishAnswer
 wholeOf brand bytes work table =
-  let o : Out FeedAnswer = feedOf (startOf brand) bytes work table in
-  finishAfter o (o .answer)
+    let o : Out FeedAnswer = feedOf (startOf brand) bytes work table in
+    finishAfter o (o .answer)

@@ -4,7 +4,7 @@ use mathlib.Core.List.{List, [], _∷_}
 use lib.Dec.{ltb}
 use lib.ListN.{length, set}
 use Rattle.basics.specs.Choose.{pick}
-use Rattle.segment.specs.Constants.{mostRoom, recordNumbers}
+use Rattle.segment.specs.Constants.{mostRecords, recordNumbers}
 
 -- leaves listed, the time at which the next entry starts, the last decode time of the reference track, work area and leaf table
 pub record Flow : Type 0 where
@@ -34,7 +34,7 @@ stored f i b = record { leaves = f .leaves; now = f .now; last = f .last; work =
 
 -- "Room is length/6 rounded down, at most 4,096."
 unfoldable pub room : List ℕ → ℕ
-room table = pick (ltb mostRoom (length table / recordNumbers)) mostRoom (length table / recordNumbers)
+room table = pick (ltb mostRecords (length table / recordNumbers)) mostRecords (length table / recordNumbers)
 
 -- numbers put at a place and those after it
 unfoldable pub putAll : List ℕ → ℕ → List ℕ → List ℕ

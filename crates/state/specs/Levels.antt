@@ -7,7 +7,7 @@ use lib.Dec.{eqb, ltb, leb}
 use lib.ListN.{take, drop}
 use Rattle.basics.specs.Choose.{pick}
 use Rattle.basics.specs.Bytes.{number}
-use Rattle.segment.specs.Constants.{levelBytes, entryBytes}
+use Rattle.segment.specs.Constants.{typeBit, levelBytes, entryBytes}
 use Rattle.machine.specs.Faults.{shows}
 use Rattle.machine.specs.declared.Refusal.{Refusal}
 use Rattle.state.specs.declared.Level.{Level}
@@ -28,7 +28,7 @@ wordAt work i = number (take 4 (drop i work))
 
 unfoldable pub entryAt : List ℕ → ℕ → Entry
 entryAt work i =
-    record { inner = leb 2147483648 (wordAt work i); size = sizeOf (wordAt work i); duration = wordAt work (i + 4); sap = wordAt work (i + 8) }
+    record { inner = leb typeBit (wordAt work i); size = sizeOf (wordAt work i); duration = wordAt work (i + 4); sap = wordAt work (i + 8) }
 
 -- the innermost open index, and how many stand open
 unfoldable pub inmost : Levels → Level

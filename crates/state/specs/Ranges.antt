@@ -3,7 +3,7 @@ use Prim.Native.Nat.{ℕ, zero, suc, _+_, _-_, _*_, _^_, _≤_}
 use mathlib.Core.List.{List, [], _∷_, _++_}
 use mathlib.Core.Bool.{Bool, true, false, _&&_}
 use lib.Dec.{leb}
-use Rattle.segment.specs.Constants.{limit, mostEntries, mostRoom}
+use Rattle.segment.specs.Constants.{limit, timeLimit, wordLimit, typeBit, mostEntries, mostRecords}
 use Rattle.machine.specs.declared.Refusal.{Refusal}
 use Rattle.machine.specs.declared.Head.{Head}
 use Rattle.machine.specs.declared.Head.the-variants as at
@@ -134,7 +134,7 @@ scaleLeast part.Reserved = 1
 scaleLeast part.Count = 1
 
 abbrev pub draftBounds : ℕ → Draft → List Bound
-draftBounds least d = below (d .id) 4294967296 ∷ atMost least (d .scale) ∷ below (d .scale) 4294967296 ∷ []
+draftBounds least d = below (d .id) wordLimit ∷ atMost least (d .scale) ∷ below (d .scale) wordLimit ∷ []
 
 -- the entries whose size, and whose duration, is in the sums
 unfoldable pub sized : EntryPart → ℕ → ℕ
@@ -149,7 +149,7 @@ lasted entry.Sap next = suc next
 
 abbrev pub sumsBounds : EntryPart → Sums → List Bound
 sumsBounds e s =
-  below (s .next) (s .count) ∷ atMost (s .count) mostEntries ∷ atMost (s .sizes) (2147483648 * sized e (s .next)) ∷ atMost (s .durations) (4294967296 * lasted e (s .next)) ∷ []
+    below (s .next) (s .count) ∷ atMost (s .count) mostEntries ∷ atMost (s .sizes) (typeBit * sized e (s .next)) ∷ atMost (s .durations) (wordLimit * lasted e (s .next)) ∷ []
 
 unfoldable pub sidxBounds : Sidx → List Bound
 sidxBounds (sidx.Field i d more acc) = draftBounds (scaleLeast i) d ++ spelled (indexMost i (d .wide)) more acc
@@ -171,7 +171,7 @@ gapBounds (gaps.Body stop) = []
 -- start plus durations is at most 2^64 − 1
 abbrev pub topBounds : Top → List Bound
 topBounds t =
-  below (t .id) 4294967296 ∷ atMost 1 (t .scale) ∷ below (t .scale) 4294967296 ∷ below (t .start + t .durations) 18446744073709551616 ∷ []
+    below (t .id) wordLimit ∷ atMost 1 (t .scale) ∷ below (t .scale) wordLimit ∷ below (t .start + t .durations) timeLimit ∷ []
 
 abbrev pub levelBounds : Level → List Bound
 levelBounds l = atMost (l .next) (l .count) ∷ atMost (l .count) mostEntries ∷ []
@@ -181,10 +181,10 @@ unfoldable pub levelsBounds : Levels → List Bound
 levelsBounds (levels.One a) = levelBounds a
 levelsBounds (levels.Two a b) = levelBounds a ++ (levelBounds b ++ (atMost (b .until) (a .until) ∷ []))
 levelsBounds (levels.Three a b c) =
-  levelBounds a ++ (levelBounds b ++ (levelBounds c ++ (atMost (b .until) (a .until) ∷ atMost (c .until) (b .until) ∷ [])))
+    levelBounds a ++ (levelBounds b ++ (levelBounds c ++ (atMost (b .until) (a .until) ∷ atMost (c .until) (b .until) ∷ [])))
 levelsBounds (levels.Four a b c d) =
-  levelBounds a
-  ++ (levelBounds b ++ (levelBounds c ++ (levelBounds d ++ (atMost (b .until) (a .until) ∷ atMost (c .until) (b .until) ∷ atMost (d .until) (c .until) ∷ []))))
+    levelBounds a
+    ++ (levelBounds b ++ (levelBounds c ++ (levelBounds d ++ (atMost (b .until) (a .until) ∷ atMost (c .until) (b .until) ∷ atMost (d .until) (c .until) ∷ []))))
 
 -- an entry ends no earlier than it starts, and no later than its index
 abbrev pub slotBounds : Levels → Slot → ℕ → List Bound
@@ -199,16 +199,16 @@ unfoldable pub stageBounds : Stage → ℕ → List Bound
 stageBounds (stage.Opening brand s) now = openingBounds s
 stageBounds (stage.Gap top l end s) now = topBounds top ++ (levelBounds l ++ (below (l .next) (l .count) ∷ atMost now (l .until) ∷ gapBounds s))
 stageBounds (stage.Entry top ls) now =
-  topBounds top ++ (levelsBounds ls ++ (below (inmost ls .next) (inmost ls .count) ∷ atMost now (inmost ls .until) ∷ []))
+    topBounds top ++ (levelsBounds ls ++ (below (inmost ls .next) (inmost ls .count) ∷ atMost now (inmost ls .until) ∷ []))
 stageBounds (stage.Leaf top ls slot s) now = topBounds top ++ (levelsBounds ls ++ (slotBounds ls slot now ++ leafBounds s))
 stageBounds (stage.Inner top ls slot s) now = topBounds top ++ (levelsBounds ls ++ (slotBounds ls slot now ++ innerBounds ls s))
 
 -- The ranges of a state.
 unfoldable pub bounds : State → List Bound
-bounds (state.Reading count leaves' now last s) = atMost count limit ∷ atMost leaves' mostRoom ∷ stageBounds s now
-bounds (state.Ended count leaves' top) = atMost count limit ∷ atMost leaves' mostRoom ∷ topBounds top
-bounds (state.Refused count leaves' x) = atMost count (suc limit) ∷ atMost leaves' mostRoom ∷ atMost 3 (x .number) ∷ atMost (x .number) 21 ∷ []
-bounds (state.Accepted count leaves' top) = atMost count limit ∷ atMost leaves' mostRoom ∷ topBounds top
+bounds (state.Reading count leaves' now last s) = atMost count limit ∷ atMost leaves' mostRecords ∷ stageBounds s now
+bounds (state.Ended count leaves' top) = atMost count limit ∷ atMost leaves' mostRecords ∷ topBounds top
+bounds (state.Refused count leaves' x) = atMost count (suc limit) ∷ atMost leaves' mostRecords ∷ atMost 3 (x .number) ∷ atMost (x .number) 21 ∷ []
+bounds (state.Accepted count leaves' top) = atMost count limit ∷ atMost leaves' mostRecords ∷ topBounds top
 
 -- the test, and the type
 abbrev pub inRange : State → Bool

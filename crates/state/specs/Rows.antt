@@ -4,7 +4,7 @@ use mathlib.Core.List.{List, [], _∷_, _++_}
 use mathlib.Core.Bool.{Bool, true, false, not, _&&_, _||_}
 use lib.Dec.{eqb, ltb, leb}
 use Rattle.basics.specs.Choose.{pick}
-use Rattle.segment.specs.Constants.{styp, sidx, moof, mdat, tfhd, tfdt, tfad}
+use Rattle.segment.specs.Constants.{levels, styp, sidx, moof, mdat, tfhd, tfdt, tfad}
 use Rattle.machine.specs.Faults.{shows}
 use Rattle.machine.specs.declared.Refusal.{Refusal}
 use Rattle.machine.specs.declared.Header.{Header}
@@ -53,7 +53,7 @@ innerFaults depth h =
     topLengths h
     ++ (shows (is h styp) 7 (h .pos)
     ++ (shows (not (is h sidx)) 9 (h .pos)
-    ++ shows (is h sidx && leb 4 depth) 13 (h .pos)))
+    ++ shows (is h sidx && leb levels depth) 13 (h .pos)))
 
 -- whether a `tfhd`, and whether a `tfdt`, may come
 unfoldable pub fresh : Track → Bool

@@ -4,7 +4,7 @@ use mathlib.Core.List.{List, [], _∷_, _++_}
 use mathlib.Core.Bool.{Bool, true, false, not, _&&_, _||_}
 use lib.Dec.{eqb, ltb, leb}
 use Rattle.basics.specs.Choose.{pick}
-use Rattle.segment.specs.Constants.{limit, levelBytes, entryBytes, mostEntries}
+use Rattle.segment.specs.Constants.{limit, timeLimit, typeBit, levelBytes, entryBytes, mostEntries}
 use Rattle.machine.specs.Faults.{shows, unless}
 use Rattle.machine.specs.Run.{Sub, go, done, bad}
 use Rattle.machine.specs.declared.Refusal.{Refusal}
@@ -68,7 +68,7 @@ countFaults span v n = shows (not (eqb (span .end) (n + entryBytes * v))) 6 (spa
 -- row 12: its durations sum to the entry's, its box size plus its entry sizes make the entry's size (box end)
 unfoldable pub sumFaults : Place → Span → Index → ℕ → ℕ → List Refusal
 sumFaults topmost span x now n =
-    shows (ltb limit (n + x .offset + x .sizes) || leb 18446744073709551616 (x .time + x .durations)) 14 (span .pos)
+    shows (ltb limit (n + x .offset + x .sizes) || leb timeLimit (x .time + x .durations)) 14 (span .pos)
 sumFaults (under top slot depth) span x now n =
     shows (not (eqb (n + x .sizes) (slot .end) && eqb (now + x .durations) (slot .until))) 12 (span .pos)
 
@@ -112,7 +112,7 @@ fieldEnds p span part.Count d v f n =
 
 -- an entry's word: type (1 bit) and size (31)
 abbrev pub sizeOf : ℕ → ℕ
-sizeOf word = word % 2147483648
+sizeOf word = word % typeBit
 
 -- row 11: entry size 0 (4th byte)
 abbrev pub sizeFaults : Span → ℕ → List Refusal
