@@ -1,7 +1,10 @@
 -- Laws of the faults that one byte shows: two readings that look at the same faults.
 use mathlib.Core.Path.{_≡_, refl}
-use mathlib.Core.List.{List, [], _∷_}
-use Rattle.machine.specs.Faults.{lowest, unless}
+use Prim.Native.Nat.{ℕ}
+use mathlib.Core.Bool.{Bool, true, false}
+use mathlib.Core.List.{List, [], _∷_, _++_}
+use native.Mathlib.Omega.{arith}
+use Rattle.machine.specs.Faults.{shows, lowest, unless}
 use Rattle.machine.specs.declared.Refusal.{Refusal}
 
 module _ {X Y C : Type 0} (F : X → C) (G : Y → C) (worse : Refusal → X) (worse' : Refusal → Y) (x : X) (y : Y) where
@@ -21,3 +24,14 @@ module _ {X Y C : Type 0} (F : X → C) (G : Y → C) (worse : Refusal → X) (w
 pub unless-none : {X : Type 0} (xs : List Refusal) (worse : Refusal → X) (x : X) → xs ≡ [] → unless xs worse x ≡ x
 unfolding unless
 unless-none xs worse x e = rw e
+
+-- no faults in two lists are none in either
+pub none-both : (xs ys : List Refusal) → xs ++ ys ≡ [] → (xs ≡ []) × (ys ≡ [])
+none-both [] ys e = (refl, e)
+none-both (x ∷ xs) ys e = let z : _≡_ {A = ℕ} 0 1 = cc in absurd (omega arith)
+
+-- where no fault is shown the test fails
+pub shows-none : (t : Bool) (n p : ℕ) → shows t n p ≡ [] → t ≡ false
+unfolding shows
+shows-none true n p e = let z : _≡_ {A = ℕ} 0 1 = cc in absurd (omega arith)
+shows-none false n p e = refl

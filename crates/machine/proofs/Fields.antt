@@ -13,18 +13,24 @@ use Rattle.machine.specs.declared.Refusal.{Refusal}
 use Rattle.machine.specs.Run.{Sub, go, done, Res, okay, cut, either, after, contBy, run, cont, fieldD, plain, skipD}
 
 -- Any machine with a phase that reads a number: `fld m acc` is the phase with `m` bytes after the next one and `acc` read, `fin` what
--- the last byte makes of the number, and `k` the reading by structure that it begins.
+-- the last byte makes of the number, and `k` the reading by structure that it begins, which is known where fewer bytes are left.
 module _ {S R F L : Type 0} (left : F → L) (step : S → F → ℕ → ℕ → Sub S R F L) (keep : F → ℕ → ℕ → F) (fld : ℕ → ℕ → S) (fin : ℕ → F → ℕ → Sub S R F L)
     (last : (acc : ℕ) (f : F) (n b : ℕ) → step (fld 0 acc) f n b ≡ fin (acc * 256 + b) (keep f 0 b) (suc n))
     (more : (m acc : ℕ) (f : F) (n b : ℕ) → step (fld (suc m) acc) f n b ≡ go (fld m (acc * 256 + b)) (keep f (suc m) b))
-    (k : ℕ → F → ℕ → List ℕ → Res R F L) (ends : (v : ℕ) (f : F) (n : ℕ) (bs : List ℕ) → k v f n bs ≡ cont left step n bs (fin v f n)) where
-  -- the number by structure is the phase's run
-  pub field-run : (m acc : ℕ) (f : F) (n : ℕ) (bs : List ℕ) → fieldD left keep k (suc m) acc f n bs ≡ run left step (fld m acc) f n bs
+    (k : ℕ → F → ℕ → List ℕ → Res R F L) where
+  pub field-within : (N : ℕ) → ((v : ℕ) (f : F) (n : ℕ) (bs : List ℕ) → length bs < N → k v f n bs ≡ cont left step n bs (fin v f n)) →
+      (m acc : ℕ) (f : F) (n : ℕ) (bs : List ℕ) → length bs ≤ N → fieldD left keep k (suc m) acc f n bs ≡ run left step (fld m acc) f n bs
   unfolding fieldD run contBy
-  field-run zero acc f n [] = refl
-  field-run zero acc f n (b ∷ bs) = ends (acc * 256 + b) (keep f 0 b) (suc n) bs ∙ ap (cont left step (suc n) bs) (sym (last acc f n b))
-  field-run (suc m) acc f n [] = refl
-  field-run (suc m) acc f n (b ∷ bs) = field-run m (acc * 256 + b) (keep f (suc m) b) (suc n) bs ∙ ap (cont left step (suc n) bs) (sym (more m acc f n b))
+  field-within N ends zero acc f n [] h = refl
+  field-within N ends zero acc f n (b ∷ bs) h = ends (acc * 256 + b) (keep f 0 b) (suc n) bs (omega arith) ∙ ap (cont left step (suc n) bs) (sym (last acc f n b))
+  field-within N ends (suc m) acc f n [] h = refl
+  field-within N ends (suc m) acc f n (b ∷ bs) h =
+      field-within N ends m (acc * 256 + b) (keep f (suc m) b) (suc n) bs (omega arith) ∙ ap (cont left step (suc n) bs) (sym (more m acc f n b))
+
+  -- the number by structure is the phase's run
+  pub field-run : ((v : ℕ) (f : F) (n : ℕ) (bs : List ℕ) → k v f n bs ≡ cont left step n bs (fin v f n)) →
+      (m acc : ℕ) (f : F) (n : ℕ) (bs : List ℕ) → fieldD left keep k (suc m) acc f n bs ≡ run left step (fld m acc) f n bs
+  field-run ends m acc f n bs = field-within (length bs) (λ v g n' cs h. ends v g n' cs) m acc f n bs (omega arith)
 
 -- Any machine with a phase that skips up to a place, whatever follows there.
 module _ {S R F L : Type 0} (left : F → L) (step : S → F → ℕ → ℕ → Sub S R F L) (stop : ℕ) (sk : S) (fin : F → ℕ → Sub S R F L)

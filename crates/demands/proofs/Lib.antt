@@ -1,0 +1,3 @@
+pub mod SidxRun
+pub mod OpeningRun
+pub mod LeafRun

@@ -1,0 +1,135 @@
+-- An index box by structure is the index box read byte by byte.
+use Prim.Native.Nat.{ℕ, zero, suc, _+_, _*_}
+use mathlib.Core.Path.{_≡_, refl, ap, sym, _∙_}
+use mathlib.Core.List.{List, [], _∷_}
+use mathlib.Core.Bool.{Bool, true, false, not, true≢false, _||_}
+use native.Mathlib.Omega.{arith}
+use lib.Dec.{eqb, ltb}
+use borrow.Author.Tests.{eq-eqb, ne-eqb}
+use Rattle.basics.specs.Choose.{pick}
+use Rattle.basics.proofs.Picks.{pick-yes, pick-no}
+use Rattle.basics.proofs.Tests.{or-left}
+use Rattle.segment.specs.Constants.{entryBytes, mostEntries}
+use Rattle.machine.specs.Faults.{shows, unless}
+use Rattle.machine.specs.Run.{Sub, go, done, bad, Res, okay, fail, cut, contBy, run, cont, fieldD, plain}
+use Rattle.machine.proofs.Faults.{unless-both, unless-with, none-both, shows-none}
+use Rattle.machine.proofs.Fields.{field-run}
+use Rattle.state.specs.declared.Span.{Span}
+use Rattle.state.specs.declared.Draft.{Draft}
+use Rattle.state.specs.declared.Sums.{Sums}
+use Rattle.state.specs.declared.Index.{Index}
+use Rattle.state.specs.declared.IndexPart.{IndexPart}
+use Rattle.state.specs.declared.IndexPart.the-variants as part
+use Rattle.state.specs.declared.EntryPart.{EntryPart}
+use Rattle.state.specs.declared.EntryPart.the-variants as entry
+use Rattle.state.specs.declared.Sidx.{Sidx}
+use Rattle.state.specs.declared.Sidx.the-variants as sidx
+use Rattle.state.specs.Flow.{Flow, Left, left}
+use Rattle.state.specs.Sidx.{Place, draft0, sidxStart, versionFaults, idFaults, scaleFaults, timeFaults, offsetFaults, countFaults, sumFaults, wideMore, indexOf, closeSidx, fieldEnds, sizeFaults, plusSize, plusDuration, nextEntry, entryEnds, keepByte, stepSidx}
+use Rattle.descent.specs.Sidx.{closeD, entryD, entriesD, countedD, countD, reservedD, offsetD, timeD, scaleD, idD, flagsD, versionD, sidxD}
+
+module _ (p : Place) (span : Span) where
+  -- what follows an answer of the index's machine
+  abbrev X : ℕ → List ℕ → Sub Sidx Index Flow Left → Res Index Flow Left
+  X n bs r = cont left (stepSidx p span) n bs r
+
+  abbrev Reads : Type 0
+  Reads = ℕ → Flow → ℕ → List ℕ → Res Index Flow Left
+
+  -- a number before the entries
+  field : (i : IndexPart) (d : Draft) (k : Reads) → ((v : ℕ) (f : Flow) (n : ℕ) (bs : List ℕ) → k v f n bs ≡ X n bs (fieldEnds p span i d v f n)) →
+      (m : ℕ) (f : Flow) (n : ℕ) (bs : List ℕ) → fieldD left plain k (suc m) 0 f n bs ≡ X n bs (go (sidx.Field i d m 0) f)
+  unfolding stepSidx contBy
+  field i d k ends m f n bs = field-run left (stepSidx p span) plain (sidx.Field i d) (fieldEnds p span i d) (λ acc g n' b. refl) (λ m' acc g n' b. refl) k ends m 0 f n bs
+
+  -- a number of an entry, each byte of it stored
+  word : (e : EntryPart) (d : Draft) (s : Sums) (k : Reads) → ((v : ℕ) (f : Flow) (n : ℕ) (bs : List ℕ) → k v f n bs ≡ X n bs (entryEnds p span e d s v f n)) →
+      (f : Flow) (n : ℕ) (bs : List ℕ) → fieldD left (keepByte p e s) k 4 0 f n bs ≡ X n bs (go (sidx.Entry e d s 3 0) f)
+  unfolding stepSidx contBy
+  word e d s k ends f n bs = field-run left (stepSidx p span) (keepByte p e s) (sidx.Entry e d s) (entryEnds p span e d s) (λ acc g n' b. refl) (λ m' acc g n' b. refl) k ends 3 0 f n bs
+
+  close : (x : Index) (f : Flow) (n : ℕ) (bs : List ℕ) → closeD p span x f n bs ≡ X n bs (closeSidx p span x f n)
+  unfolding closeD closeSidx contBy
+  close x f n bs = unless-both (λ r. r) (X n bs) _ _ _ _ (sumFaults p span x (f .now) n) (λ y. refl) refl
+
+  -- an entry, and what follows it
+  one-entry : (d : Draft) (s : Sums) (more : Sums → Flow → ℕ → List ℕ → Res Index Flow Left) →
+      ((t : Sums) (f : Flow) (n : ℕ) (bs : List ℕ) → t .next ≡ s .next → t .count ≡ s .count → (v : ℕ) → more t f n bs ≡ X n bs (entryEnds p span entry.Sap d t v f n)) →
+      (f : Flow) (n : ℕ) (bs : List ℕ) → entryD p span more s f n bs ≡ X n bs (go (sidx.Entry entry.Size d s 3 0) f)
+  unfolding entryD entryEnds contBy
+  one-entry d s more law f n bs =
+      word entry.Size d s _
+      (λ v g m cs. unless-both (λ r. r) (X m cs) _ _ _ _ (sizeFaults span v) (λ x. refl)
+      (word entry.Duration d (plusSize s v) _ (λ u h k ds. word entry.Sap d (plusDuration (plusSize s v) u) _ (λ sap i l es. law (plusDuration (plusSize s v) u) i l es refl refl sap) h k ds) g m cs))
+      f n bs
+
+  entries : (d : Draft) (k : ℕ) (s : Sums) → k + suc (s .next) ≡ s .count → (f : Flow) (n : ℕ) (bs : List ℕ) → entriesD p span d k s f n bs ≡ X n bs (go (sidx.Entry entry.Size d s 3 0) f)
+  unfolding entriesD entryEnds
+  entries d zero s e f n bs =
+      one-entry d s _ (λ t g m cs q q' v. close (indexOf d t) g m cs ∙ ap (X m cs) (sym (pick-yes (eqb (suc (t .next)) (t .count)) _ _ (eq-eqb (suc (t .next)) (t .count) (omega arith))))) f n bs
+  entries d (suc k) s e f n bs =
+      one-entry d s _
+      (λ t g m cs q q' v. entries d k (nextEntry t) (omega arith) g m cs ∙ ap (X m cs) (sym (pick-no (eqb (suc (t .next)) (t .count)) _ _ (ne-eqb (suc (t .next)) (t .count) (λ z. omega arith))))) f n bs
+
+  counted : (d : Draft) (v : ℕ) (f : Flow) (n : ℕ) (bs : List ℕ) → eqb v 0 ≡ false → countedD p span d v v f n bs ≡ X n bs (go (sidx.Entry entry.Size d (record { next = 0; count = v; sizes = 0; durations = 0 }) 3 0) f)
+  unfolding countedD
+  counted d zero f n bs e = absurd (true≢false e)
+  counted d (suc k) f n bs e = entries d k (record { next = 0; count = suc k; sizes = 0; durations = 0 }) (omega arith) f n bs
+
+  -- a count that shows no fault is not 0
+  count-some : (v n : ℕ) → countFaults span v n ≡ [] → eqb v 0 ≡ false
+  unfolding countFaults
+  count-some v n e =
+      let zero-or-many = eqb v 0 || ltb mostEntries v in
+      or-left (eqb v 0) (ltb mostEntries v)
+      (shows-none zero-or-many 11 (span .pos)
+      (none-both (shows (not (eqb (span .end) (n + entryBytes * v))) 6 (span .pos)) (shows zero-or-many 11 (span .pos)) e .1))
+
+  count-run : (d : Draft) (v : ℕ) (f : Flow) (n : ℕ) (bs : List ℕ) → countD p span d v f n bs ≡ X n bs (fieldEnds p span part.Count d v f n)
+  unfolding countD fieldEnds contBy
+  count-run d v f n bs =
+      unless-with (λ r. r) (X n bs) _ _ _ _ (countFaults span v n) (λ x. refl)
+      (λ e. counted d v f n bs (count-some v n e))
+
+  reserved-run : (d : Draft) (v : ℕ) (f : Flow) (n : ℕ) (bs : List ℕ) → reservedD p span d v f n bs ≡ X n bs (fieldEnds p span part.Reserved d v f n)
+  unfolding reservedD fieldEnds
+  reserved-run d v f n bs = field part.Count d (countD p span d) (count-run d) 1 f n bs
+
+  offset-run : (d : Draft) (v : ℕ) (f : Flow) (n : ℕ) (bs : List ℕ) → offsetD p span d v f n bs ≡ X n bs (fieldEnds p span part.Offset d v f n)
+  unfolding offsetD fieldEnds contBy
+  offset-run d v f n bs =
+      unless-both (λ r. r) (X n bs) _ _ _ _ (offsetFaults p span v) (λ x. refl)
+      (let d' : Draft = record { wide = d .wide; id = d .id; scale = d .scale; time = d .time; offset = v } in field part.Reserved d' (reservedD p span d') (reserved-run d') 1 f n bs)
+
+  time-run : (d : Draft) (v : ℕ) (f : Flow) (n : ℕ) (bs : List ℕ) → timeD p span d v f n bs ≡ X n bs (fieldEnds p span part.Time d v f n)
+  unfolding timeD fieldEnds contBy
+  time-run d v f n bs =
+      unless-both (λ r. r) (X n bs) _ _ _ _ (timeFaults p span (f .now) v) (λ x. refl)
+      (let d' : Draft = record { wide = d .wide; id = d .id; scale = d .scale; time = v; offset = 0 } in field part.Offset d' (offsetD p span d') (offset-run d') (wideMore (d .wide)) f n bs)
+
+  scale-run : (d : Draft) (v : ℕ) (f : Flow) (n : ℕ) (bs : List ℕ) → scaleD p span d v f n bs ≡ X n bs (fieldEnds p span part.Scale d v f n)
+  unfolding scaleD fieldEnds contBy
+  scale-run d v f n bs =
+      unless-both (λ r. r) (X n bs) _ _ _ _ (scaleFaults p span v) (λ x. refl)
+      (let d' : Draft = record { wide = d .wide; id = d .id; scale = v; time = 0; offset = 0 } in field part.Time d' (timeD p span d') (time-run d') (wideMore (d .wide)) f n bs)
+
+  id-run : (d : Draft) (v : ℕ) (f : Flow) (n : ℕ) (bs : List ℕ) → idD p span d v f n bs ≡ X n bs (fieldEnds p span part.Id d v f n)
+  unfolding idD fieldEnds contBy
+  id-run d v f n bs =
+      unless-both (λ r. r) (X n bs) _ _ _ _ (idFaults p span v) (λ x. refl)
+      (let d' : Draft = record { wide = d .wide; id = v; scale = 0; time = 0; offset = 0 } in field part.Scale d' (scaleD p span d') (scale-run d') 3 f n bs)
+
+  flags-run : (d : Draft) (v : ℕ) (f : Flow) (n : ℕ) (bs : List ℕ) → flagsD p span d v f n bs ≡ X n bs (fieldEnds p span part.Flags d v f n)
+  unfolding flagsD fieldEnds
+  flags-run d v f n bs = field part.Id d (idD p span d) (id-run d) 3 f n bs
+
+  version-run : (d : Draft) (v : ℕ) (f : Flow) (n : ℕ) (bs : List ℕ) → versionD p span v f n bs ≡ X n bs (fieldEnds p span part.Version d v f n)
+  unfolding versionD fieldEnds contBy
+  version-run d v f n bs =
+      unless-both (λ r. r) (X n bs) _ _ _ _ (versionFaults span v n) (λ x. refl)
+      (let d' : Draft = record { wide = eqb v 1; id = 0; scale = 0; time = 0; offset = 0 } in field part.Flags d' (flagsD p span d') (flags-run d') 2 f n bs)
+
+  -- the body of an index
+  pub sidx-run : (f : Flow) (n : ℕ) (bs : List ℕ) → sidxD p span f n bs ≡ X n bs (go sidxStart f)
+  unfolding sidxD
+  sidx-run f n bs = field part.Version draft0 (versionD p span) (version-run draft0) 0 f n bs
