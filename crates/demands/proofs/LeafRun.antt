@@ -38,9 +38,9 @@ use Rattle.state.specs.declared.LeafBoxes.the-variants as leafBox
 use Rattle.state.specs.Flow.{Flow, Left, left}
 use Rattle.state.specs.Rows.{is}
 use Rattle.state.specs.Opening.{spanOf}
-use Rattle.state.specs.Traf.{Gave, nothing, headed, timed, versionFaults, fallFaults, reference, timeEnds, trafEnds, beginTraf, stepTrafBody, trafNext, trafBoxes, wrapTraf, stepTraf, trafSo0, beginTrafBoxes}
+use Rattle.state.specs.Traf.{Gave, nothing, headed, timed, versionFaults, reference, trafEnds, beginTraf, stepTrafBody, trafNext, trafBoxes, wrapTraf, stepTraf, trafSo0, beginTrafBoxes}
 use Rattle.state.specs.Leaf.{Passed, skipped, seeing, beginMoof, stepMoofBody, moofNext, moofBoxes, wrapMoof, stepMoof, beginMoofBoxes, beginLeaf, stepLeafBody, leafBoxes, wrapLeaf, stepLeaf, leafSo0}
-use Rattle.descent.specs.Leaf.{tfhdD, timeD, widthD, tfdtD, trafBodyD, trafD, moofBodyD, moofD, leafBodyD, leafD}
+use Rattle.descent.specs.Leaf.{tfhdD, widthD, tfdtD, trafBodyD, trafD, moofBodyD, moofD, leafBodyD, leafD}
 
 module _ (id : ℕ) (t : Track) where
   abbrev T : ℕ → List ℕ → Sub TrafBody Gave Flow Left → Res Gave Flow Left
@@ -59,19 +59,10 @@ module _ (id : ℕ) (t : Track) where
       (λ v g m cs. number (part.TrackId end) _ (λ u h k ds. skip-run left (stepTrafBody id t) end (body.Rest end (eqb u id)) (headed (eqb u id)) (λ i l b. refl) h k ds) 3 g m cs)
       3 f n bs
 
-  time-by : (r : Bool) (pos v : ℕ) (f : Flow) (n : ℕ) (bs : List ℕ) → timeD r pos v f n bs ≡ T n bs (timeEnds r pos v f)
-  unfolding timeD timeEnds contBy
-  time-by true pos v f n bs = unless-both (λ r. r) (T n bs) _ _ _ _ (fallFaults pos (f .last) v) (λ x. refl) refl
-  time-by false pos v f n bs = refl
-
-  time-run : (pos v : ℕ) (f : Flow) (n : ℕ) (bs : List ℕ) → timeD (reference t) pos v f n bs ≡ T n bs (trafEnds id t (part.Time pos) v f n)
-  unfolding trafEnds
-  time-run pos v f n bs = time-by (reference t) pos v f n bs
-
   width-run : (wide : Bool) (pos v : ℕ) (f : Flow) (n : ℕ) (bs : List ℕ) → widthD wide (reference t) pos f n bs ≡ T n bs (trafEnds id t (part.TimeFlags pos wide) v f n)
-  unfolding widthD trafEnds
-  width-run true pos v f n bs = number (part.Time pos) _ (time-run pos) 7 f n bs
-  width-run false pos v f n bs = number (part.Time pos) _ (time-run pos) 3 f n bs
+  unfolding widthD trafEnds contBy
+  width-run true pos v f n bs = number (part.Time pos) _ (λ v g m cs. refl) 7 f n bs
+  width-run false pos v f n bs = number (part.Time pos) _ (λ v g m cs. refl) 3 f n bs
 
   tfdt-run : (pos end : ℕ) (f : Flow) (n : ℕ) (bs : List ℕ) → tfdtD (reference t) pos end f n bs ≡ T n bs (go (body.Field (part.Version pos end) 0 0) f)
   unfolding tfdtD trafEnds contBy
@@ -97,7 +88,7 @@ traf-steps id span a (inBody s) f n b = refl
 traf-run : (id : ℕ) (span : Span) (seen : Seen) (f : Flow) (n : ℕ) (bs : List ℕ) → trafD id span seen f n bs ≡ cont left (stepTraf id span) n bs (beginTrafBoxes id span seen f n)
 traf-run id span seen f n bs =
     go-on-run (trafBoxes id span) wrapTraf (stepTraf id span) (traf-steps id span) (λ a. refl) (λ so. trafBodyD id (so .track)) (λ so. traf-body id (so .track))
-    (length bs) (trafNext span (trafSo0 seen) n) f n bs (omega arith)
+    (length bs) (trafNext span (trafSo0 seen) [] n) f n bs (omega arith)
 
 module _ (id : ℕ) where
   abbrev M : ℕ → List ℕ → Sub MoofBody Passed Flow Left → Res Passed Flow Left
@@ -147,6 +138,6 @@ module _ (id : ℕ) where
   leaf-steps slot a (inBody s) f n b = refl
 
   -- a leaf, from its first byte on
-  pub leaf-run : (slot : Slot) (f : Flow) (n : ℕ) (bs : List ℕ) → leafD id slot f n bs ≡ run left (stepLeaf id slot) (leafBox.Head leafSo0 at.First) f n bs
+  pub leaf-run : (slot : Slot) (f : Flow) (n : ℕ) (bs : List ℕ) → leafD id slot f n bs ≡ run left (stepLeaf id slot) (leafBox.Head (leafSo0 (f .last)) at.First) f n bs
   leaf-run slot f n bs =
-      boxes-run (leafBoxes id slot) wrapLeaf (stepLeaf id slot) (leaf-steps slot) (λ a. refl) (λ so. leafBodyD id (so .seen)) (λ so. leaf-body (so .seen)) (length bs) leafSo0 f n bs (omega arith)
+      boxes-run (leafBoxes id slot) wrapLeaf (stepLeaf id slot) (leaf-steps slot) (λ a. refl) (λ so. leafBodyD id (so .seen)) (λ so. leaf-body (so .seen)) (length bs) (leafSo0 (f .last)) f n bs (omega arith)

@@ -17,13 +17,12 @@ use Rattle.state.specs.declared.Slot.{Slot}
 use Rattle.state.specs.declared.Track.{Track}
 use Rattle.state.specs.declared.TrafSo.{TrafSo}
 use Rattle.state.specs.declared.LeafSo.{LeafSo}
-use Rattle.state.specs.Flow.{Flow, Left, left, withLast}
+use Rattle.state.specs.Flow.{Flow, Left, left}
 use Rattle.state.specs.Rows.{is}
 use Rattle.state.specs.Opening.{spanOf}
-use Rattle.state.specs.Traf.{Gave, nothing, headed, timed, versionFaults, fallFaults, reference, trafSo0, trafNext, trafBoxes}
+use Rattle.state.specs.Traf.{Gave, nothing, headed, timed, versionFaults, reference, trafSo0, trafNext, trafBoxes}
 use Rattle.state.specs.Leaf.{Passed, skipped, seeing, moofNext, moofBoxes, leafBoxes, leafSo0}
 use Rattle.descent.specs.Opening.{skipTo}
-use mathlib.Core.Option.{some, none}
 
 abbrev Gave' : Type 0
 Gave' = Res Gave Flow Left
@@ -33,15 +32,10 @@ unfoldable pub tfhdD : ℕ → ℕ → Flow → ℕ → List ℕ → Gave'
 tfhdD id end f n bs =
     fieldD left plain (λ flags g m cs. fieldD left plain (λ v h k ds. skipTo (headed (eqb v id)) end h k ds) 4 0 g m cs) 4 0 f n bs
 
--- a decode time, which is looked at in the reference track
-unfoldable pub timeD : Bool → ℕ → ℕ → Flow → ℕ → List ℕ → Gave'
-timeD true pos v f n bs = unless (fallFaults pos (f .last) v) (λ x. fail x (left f) n) (okay (timed (some v)) (withLast f v) n bs)
-timeD false pos v f n bs = okay (timed none) f n bs
-
 -- a decode time of 32 or 64 bits, after the flags
 unfoldable pub widthD : Bool → Bool → ℕ → Flow → ℕ → List ℕ → Gave'
-widthD true r pos f n bs = fieldD left plain (λ v g m cs. timeD r pos v g m cs) 8 0 f n bs
-widthD false r pos f n bs = fieldD left plain (λ v g m cs. timeD r pos v g m cs) 4 0 f n bs
+widthD true r pos f n bs = fieldD left plain (λ v g m cs. okay (timed r pos v) g m cs) 8 0 f n bs
+widthD false r pos f n bs = fieldD left plain (λ v g m cs. okay (timed r pos v) g m cs) 4 0 f n bs
 
 -- `tfdt`: version, flags, decode time
 unfoldable pub tfdtD : Bool → ℕ → ℕ → Flow → ℕ → List ℕ → Gave'
@@ -58,7 +52,7 @@ trafBodyD id t h f n bs =
 
 abbrev pub trafD : ℕ → Span → Seen → Flow → ℕ → List ℕ → Res Seen Flow Left
 trafD id span seen f n bs =
-    goOnD (trafBoxes id span) (λ so. trafBodyD id (so .track)) (boxesD (trafBoxes id span) (λ so. trafBodyD id (so .track)) (length bs)) (trafNext span (trafSo0 seen) n) f n bs
+    goOnD (trafBoxes id span) (λ so. trafBodyD id (so .track)) (boxesD (trafBoxes id span) (λ so. trafBodyD id (so .track)) (length bs)) (trafNext span (trafSo0 seen) [] n) f n bs
 
 unfoldable pub moofBodyD : ℕ → Seen → Header → Flow → ℕ → List ℕ → Res Passed Flow Left
 moofBodyD id seen h f n bs =
@@ -71,6 +65,6 @@ unfoldable pub leafBodyD : ℕ → Seen → Header → Flow → ℕ → List ℕ
 leafBodyD id seen h f n bs =
     pick (is h moof) (after (moofD id (boxEnd h) seen f n bs) (λ s g m cs. okay (seeing s) g m cs)) (skipTo skipped (boxEnd h) f n bs)
 
--- a leaf from its first byte on, with its first decode time of the reference track
-abbrev pub leafD : ℕ → Slot → Flow → ℕ → List ℕ → Res ℕ Flow Left
-leafD id slot f n bs = boxesD (leafBoxes id slot) (λ so. leafBodyD id (so .seen)) (length bs) leafSo0 f n bs
+-- a leaf from its first byte on, with the decode times seen
+abbrev pub leafD : ℕ → Slot → Flow → ℕ → List ℕ → Res Seen Flow Left
+leafD id slot f n bs = boxesD (leafBoxes id slot) (λ so. leafBodyD id (so .seen)) (length bs) (leafSo0 (f .last)) f n bs

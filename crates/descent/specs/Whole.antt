@@ -51,7 +51,7 @@ innerD top slot depth f n bs = boxD (innerKind top slot depth) (λ h g m cs. sid
 unfoldable pub slotD : Under → Top → ℕ → Bool → Slot → Flow → ℕ → List ℕ → Went
 slotD inner top depth true slot f n bs = after (innerD top slot depth f n bs) (λ x g m cs. inner (suc depth) (innerLevel x slot) g m cs)
 slotD inner top depth false slot f n bs =
-    after (leafD (top .id) slot f n bs) (λ first g m cs. okay tt (listed g (leafRow slot (g .now) first) (slot .until)) m cs)
+    after (leafD (top .id) slot f n bs) (λ seen g m cs. okay tt (listed g (leafRow slot (g .now) (seen .first)) (slot .until) (seen .last)) m cs)
 
 unfoldable pub readBackD : Under → Top → ℕ → Level → Entry → Flow → ℕ → List ℕ → Went
 readBackD inner top depth l e f n bs =

@@ -53,7 +53,7 @@ module _ {A B R Q F L S : Type 0} (l : Boxes A B R Q F L) (wrap : A → Box B �
   go-on : (turns : ℕ) (n : ℕ) (bs : List ℕ) → ((a : A) (f : F) → boxesD l bodyD turns a f n bs ≡ run (l .kept) step (wrap a (inHead at.First)) f n bs) →
       (next : Next A Q) (f : F) → goOnD l bodyD (boxesD l bodyD turns) next f n bs ≡ cont (l .kept) step n bs (goOn l wrap next f)
   unfolding goOnD goOn contBy
-  go-on turns n bs h (again a) f = h a f
+  go-on turns n bs h (again a xs) f = unless-both (λ r. r) (cont (l .kept) step n bs) _ _ _ _ xs (λ x. refl) (h a f)
   go-on turns n bs h (over q xs) f = unless-both (λ r. r) (cont (l .kept) step n bs) _ _ _ _ xs (λ x. refl) refl
 
   -- from a box's first byte on: as many turns as there are bytes are enough

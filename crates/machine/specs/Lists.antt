@@ -42,9 +42,9 @@ module _ {B R F L : Type 0} (k : Kind B R F L) where
     unfoldable pub boxD : F → ℕ → List ℕ → Res R F L
     boxD f n bs = after (headD (k .left) (k .end) f n bs) (λ h g m cs. unless (faultsOf h g) (λ x. fail x (k .left g) m) (bodyD h g m cs))
 
--- After a box the list goes on with what is known of it, or it is over, with what it lacks.
+-- After a box, with the faults that show at its end: the list goes on with what is known of it, or it is over.
 pub data Next (A Q : Type 0) : Type 0 where
-  again : A → Next A Q
+  again : A → List Refusal → Next A Q
   over : Q → List Refusal → Next A Q
 
 -- What a list of boxes is: its boxes, which may hang on what is known of the list; what follows a box; and the faults of the list
@@ -57,7 +57,7 @@ pub record Boxes (A B R Q F L : Type 0) : Type 0 where
 
 module _ {A B R Q F L S : Type 0} (l : Boxes A B R Q F L) (wrap : A → Box B → S) where
   unfoldable pub goOn : Next A Q → F → Sub S Q F L
-  goOn (again a) f = go (wrap a (inHead at.First)) f
+  goOn (again a xs) f = unless xs (λ x. bad x (l .kept f)) (go (wrap a (inHead at.First)) f)
   goOn (over q xs) f = unless xs (λ x. bad x (l .kept f)) (done q f)
 
   -- a machine for one box inside the list: `n` bytes up to the one at hand
@@ -70,7 +70,7 @@ module _ {A B R Q F L S : Type 0} (l : Boxes A B R Q F L) (wrap : A → Box B �
 -- by structure, given what the body of a box is; a box takes bytes, so that as many turns as there are bytes are enough
 module _ {A B R Q F L : Type 0} (l : Boxes A B R Q F L) (bodyD : A → Header → F → ℕ → List ℕ → Res R F L) where
   unfoldable pub goOnD : (A → F → ℕ → List ℕ → Res Q F L) → Next A Q → F → ℕ → List ℕ → Res Q F L
-  goOnD more (again a) f n bs = more a f n bs
+  goOnD more (again a xs) f n bs = unless xs (λ x. fail x (l .kept f) n) (more a f n bs)
   goOnD more (over q xs) f n bs = unless xs (λ x. fail x (l .kept f) n) (okay q f n bs)
 
   unfoldable pub boxesD : ℕ → A → F → ℕ → List ℕ → Res Q F L

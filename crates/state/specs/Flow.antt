@@ -6,7 +6,7 @@ use lib.ListN.{length, set}
 use Rattle.basics.specs.Choose.{pick}
 use Rattle.segment.specs.Constants.{mostRecords, recordNumbers}
 
--- leaves listed, the time at which the next entry starts, the last decode time of the reference track, work area and leaf table
+-- leaves listed, the time at which the next entry starts, the last decode time of the reference track in them, work area and leaf table
 pub record Flow : Type 0 where
   pub leaves : ℕ
   pub now : ℕ
@@ -21,9 +21,6 @@ pub record Left : Type 0 where
 
 abbrev pub left : Flow → Left
 left f = record { leaves = f .leaves; work = f .work; table = f .table }
-
-abbrev pub withLast : Flow → ℕ → Flow
-withLast f t = record { leaves = f .leaves; now = f .now; last = t; work = f .work; table = f .table }
 
 abbrev pub withNow : Flow → ℕ → Flow
 withNow f t = record { leaves = f .leaves; now = t; last = f .last; work = f .work; table = f .table }
@@ -41,6 +38,6 @@ unfoldable pub putAll : List ℕ → ℕ → List ℕ → List ℕ
 putAll table i [] = table
 putAll table i (x ∷ xs) = putAll (set table i x) (suc i) xs
 
--- a leaf is listed: its record is written, and the time line goes on to its end
-unfoldable pub listed : Flow → List ℕ → ℕ → Flow
-listed f row until = record { leaves = suc (f .leaves); now = until; last = f .last; work = f .work; table = putAll (f .table) (recordNumbers * f .leaves) row }
+-- a leaf is listed: its record is written, the time line goes on to its end, and its last decode time is the last
+unfoldable pub listed : Flow → List ℕ → ℕ → ℕ → Flow
+listed f row until last = record { leaves = suc (f .leaves); now = until; last = last; work = f .work; table = putAll (f .table) (recordNumbers * f .leaves) row }

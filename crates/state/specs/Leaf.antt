@@ -57,7 +57,7 @@ abbrev pub moofKind : ℕ → ℕ → Seen → Kind MoofBody Passed Flow Left
 moofKind id end seen = record { left = left; end = end; shown = λ h f. []; begin = beginMoof id seen; body = stepMoofBody id }
 
 unfoldable pub moofNext : ℕ → Seen → ℕ → Next Seen Seen
-moofNext end seen n = pick (eqb n end) (over seen []) (again seen)
+moofNext end seen n = pick (eqb n end) (over seen []) (again seen [])
 
 abbrev pub moofBoxes : ℕ → ℕ → Boxes Seen MoofBody Passed Seen Flow Left
 moofBoxes id end =
@@ -100,11 +100,11 @@ leafNow so (seeing s) = record { moof = true; seen = s }
 unfoldable pub leafLacks : Slot → LeafSo → Left → List Refusal
 leafLacks slot so kept = shows (noRoom (kept .leaves) (kept .table)) 15 (slot .pos) ++ shows (not (so .seen .any)) 19 (slot .pos)
 
--- the list goes on, or it ends where the leaf does, with the leaf's first decode time
-unfoldable pub leafNext : Slot → LeafSo → Flow → ℕ → Next LeafSo ℕ
-leafNext slot so f n = pick (eqb n (slot .end)) (over (so .seen .first) (leafLacks slot so (left f))) (again so)
+-- the list goes on, or it ends where the leaf does, with the decode times seen
+unfoldable pub leafNext : Slot → LeafSo → Flow → ℕ → Next LeafSo Seen
+leafNext slot so f n = pick (eqb n (slot .end)) (over (so .seen) (leafLacks slot so (left f))) (again so [])
 
-abbrev pub leafBoxes : ℕ → Slot → Boxes LeafSo LeafBody Passed ℕ Flow Left
+abbrev pub leafBoxes : ℕ → Slot → Boxes LeafSo LeafBody Passed Seen Flow Left
 leafBoxes id slot =
     record {
       kept = left;
@@ -117,10 +117,10 @@ abbrev pub wrapLeaf : LeafSo → Box LeafBody → LeafBoxes
 wrapLeaf so (inHead h) = leafBox.Head so h
 wrapLeaf so (inBody s) = leafBox.Body so s
 
-unfoldable pub stepLeaf : ℕ → Slot → LeafBoxes → Flow → ℕ → ℕ → Sub LeafBoxes ℕ Flow Left
+unfoldable pub stepLeaf : ℕ → Slot → LeafBoxes → Flow → ℕ → ℕ → Sub LeafBoxes Seen Flow Left
 stepLeaf id slot (leafBox.Head so h) f n b = stepBoxes (leafBoxes id slot) wrapLeaf so (inHead h) f n b
 stepLeaf id slot (leafBox.Body so s) f n b = stepBoxes (leafBoxes id slot) wrapLeaf so (inBody s) f n b
 
--- a leaf at its first byte
-abbrev pub leafSo0 : LeafSo
-leafSo0 = record { moof = false; seen = record { any = false; first = 0 } }
+-- a leaf at its first byte, after the last decode time before it
+abbrev pub leafSo0 : ℕ → LeafSo
+leafSo0 last = record { moof = false; seen = record { any = false; first = 0; last = last } }

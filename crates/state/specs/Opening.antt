@@ -69,7 +69,7 @@ openingBox brand branded =
 
 -- after `styp` or a skipped box others follow; the top index ends the list
 unfoldable pub closeOpening : Bool → Opened → Flow → ℕ → Next Bool Index
-closeOpening branded passed f n = again true
+closeOpening branded passed f n = again true []
 closeOpening branded (indexed x) f n = over x []
 
 abbrev pub opening : ℕ → Boxes Bool OpeningBody Opened Index Flow Left

@@ -16,6 +16,7 @@ use Rattle.state.specs.declared.Top.{Top}
 use Rattle.state.specs.declared.Level.{Level}
 use Rattle.state.specs.declared.Levels.{Levels}
 use Rattle.state.specs.declared.Levels.the-variants as levels
+use Rattle.state.specs.declared.Seen.{Seen}
 use Rattle.state.specs.declared.Slot.{Slot}
 use Rattle.state.specs.declared.Index.{Index}
 use Rattle.state.specs.declared.Sidx.{Sidx}
@@ -48,7 +49,7 @@ gapKind end =
     record { left = left; end = end; shown = λ h f. gapFaults h; begin = λ h f n. skipGap (boxEnd h) f n; body = λ stop f n b. skipGap stop f (suc n) }
 
 unfoldable pub gapNext : ℕ → ℕ → Next (Unit {0}) (Unit {0})
-gapNext end n = pick (eqb n end) (over tt []) (again tt)
+gapNext end n = pick (eqb n end) (over tt []) (again tt [])
 
 abbrev pub gapBoxes : ℕ → Boxes (Unit {0}) ℕ (Unit {0}) (Unit {0}) Flow Left
 gapBoxes end = record { kept = left; box = λ u. gapKind end; close = λ u r f n. gapNext end n; beside = λ u kept n. [] }
@@ -120,9 +121,9 @@ onward top (some ls) f = go (stage.Entry top ls) f
 abbrev pub leafRow : Slot → ℕ → ℕ → List ℕ
 leafRow slot now first = slot .pos ∷ (slot .end - slot .pos) ∷ now ∷ (slot .until - now) ∷ slot .sap ∷ first ∷ []
 
-abbrev pub liftLeaf : Top → Levels → Slot → Sub LeafBoxes ℕ Flow Left → Sub'
+abbrev pub liftLeaf : Top → Levels → Slot → Sub LeafBoxes Seen Flow Left → Sub'
 liftLeaf top ls slot r =
-    lift (stage.Leaf top ls slot) (λ first f. onward top (stillOpen ls) (listed f (leafRow slot (f .now) first) (slot .until))) bad r
+    lift (stage.Leaf top ls slot) (λ seen f. onward top (stillOpen ls) (listed f (leafRow slot (f .now) (seen .first)) (slot .until) (seen .last))) bad r
 
 abbrev pub stepInLeaf : Top → Levels → Slot → LeafBoxes → Flow → ℕ → ℕ → Sub'
 stepInLeaf top ls slot s f n b = liftLeaf top ls slot (stepLeaf (top .id) slot s f n b)
@@ -130,7 +131,7 @@ stepInLeaf top ls slot s f n b = liftLeaf top ls slot (stepLeaf (top .id) slot s
 -- an entry, at its first byte: type 0 is a leaf, type 1 covers an inner index
 unfoldable pub stepSlot : Top → Levels → Bool → Slot → Flow → ℕ → ℕ → Sub'
 stepSlot top ls true slot f n b = stepInner top ls slot (inHead at.First) f n b
-stepSlot top ls false slot f n b = stepInLeaf top ls slot (leafBox.Head leafSo0 at.First) f n b
+stepSlot top ls false slot f n b = stepInLeaf top ls slot (leafBox.Head (leafSo0 (f .last)) at.First) f n b
 
 -- "An entry is read back from the work area when its first byte comes."
 unfoldable pub stepEntry : Top → Levels → Entry → Flow → ℕ → ℕ → Sub'

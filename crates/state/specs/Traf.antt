@@ -1,7 +1,6 @@
 -- A `traf`: one `tfhd`, then one `tfdt`, and no `tfad`.
 use Prim.Native.Nat.{ℕ, zero, suc, _+_, _*_}
 use mathlib.Core.List.{List, [], _∷_, _++_}
-use mathlib.Core.Option.{Option, some, none}
 use mathlib.Core.Bool.{Bool, true, false, not, _&&_, _||_}
 use lib.Dec.{eqb, ltb, leb}
 use Rattle.basics.specs.Choose.{pick}
@@ -23,14 +22,14 @@ use Rattle.state.specs.declared.TrafBody.{TrafBody}
 use Rattle.state.specs.declared.TrafBody.the-variants as body
 use Rattle.state.specs.declared.TrafBoxes.{TrafBoxes}
 use Rattle.state.specs.declared.TrafBoxes.the-variants as boxes
-use Rattle.state.specs.Flow.{Flow, Left, left, withLast}
+use Rattle.state.specs.Flow.{Flow, Left, left}
 use Rattle.state.specs.Rows.{is, trafFaults}
 
--- what a box of a `traf` gives: nothing, whether its track is the reference track, or a decode time of the reference track, if it is one
+-- what a box of a `traf` gives: nothing; whether its track is the reference track; or whether it is, its place and its decode time
 pub data Gave : Type 0 where
   nothing : Gave
   headed : Bool → Gave
-  timed : Option ℕ → Gave
+  timed : Bool → ℕ → ℕ → Gave
 
 abbrev Sub' : Type 0
 Sub' = Sub TrafBody Gave Flow Left
@@ -40,9 +39,11 @@ unfoldable pub versionFaults : ℕ → ℕ → ℕ → ℕ → List Refusal
 versionFaults pos end v n =
     shows (ltb 1 v) 10 pos ++ shows (eqb v 0 && not (eqb end (n + 7)) || eqb v 1 && not (eqb end (n + 11))) 6 pos
 
--- row 18: the reference track's decode time falls
-abbrev pub fallFaults : ℕ → ℕ → ℕ → List Refusal
-fallFaults pos last v = shows (ltb v last) 18 pos
+-- row 18: the reference track's decode time falls (end of `tfdt`)
+unfoldable pub fallFaults : ℕ → Gave → List Refusal
+fallFaults last nothing = []
+fallFaults last (headed r) = []
+fallFaults last (timed r pos v) = shows (r && ltb v last) 18 pos
 
 -- whether a track is the reference track
 unfoldable pub reference : Track → Bool
@@ -56,11 +57,6 @@ skipTraf gives skip stop f n = pick (leb stop n) (done gives f) (go (skip stop) 
 abbrev pub restFrom : ℕ → Bool → Flow → ℕ → Sub'
 restFrom end r f n = skipTraf (headed r) (λ stop. body.Rest stop r) end f n
 
--- a decode time is read
-unfoldable pub timeEnds : Bool → ℕ → ℕ → Flow → Sub'
-timeEnds true pos v f = unless (fallFaults pos (f .last) v) (λ x. bad x (left f)) (done (timed (some v)) (withLast f v))
-timeEnds false pos v f = done (timed none) f
-
 -- a number of a `tfhd` or a `tfdt` is read; `id` is the top index's reference ID
 unfoldable pub trafEnds : ℕ → Track → TrafPart → ℕ → Flow → ℕ → Sub'
 trafEnds id t (part.HeadFlags end) v f n = go (body.Field (part.TrackId end) 3 0) f
@@ -69,7 +65,7 @@ trafEnds id t (part.Version pos end) v f n =
     unless (versionFaults pos end v n) (λ x. bad x (left f)) (go (body.Field (part.TimeFlags pos (eqb v 1)) 2 0) f)
 trafEnds id t (part.TimeFlags pos true) v f n = go (body.Field (part.Time pos) 7 0) f
 trafEnds id t (part.TimeFlags pos false) v f n = go (body.Field (part.Time pos) 3 0) f
-trafEnds id t (part.Time pos) v f n = timeEnds (reference t) pos v f
+trafEnds id t (part.Time pos) v f n = done (timed (reference t) pos v) f
 
 unfoldable pub beginTraf : Header → Flow → ℕ → Sub'
 beginTraf h f n =
@@ -86,15 +82,15 @@ abbrev pub trafBox : ℕ → ℕ → TrafSo → Kind TrafBody Gave Flow Left
 trafBox id end so =
     record { left = left; end = end; shown = λ h f. trafFaults (so .track) h; begin = beginTraf; body = stepTrafBody id (so .track) }
 
--- one more decode time of the reference track
-unfoldable pub saw : Seen → Option ℕ → Seen
-saw s none = s
-saw s (some v) = record { any = true; first = pick (s .any) (s .first) v }
+-- one more decode time, which counts where it is the reference track's
+unfoldable pub saw : Seen → Bool → ℕ → Seen
+saw s false v = s
+saw s true v = record { any = true; first = pick (s .any) (s .first) v; last = v }
 
 unfoldable pub trafNow : TrafSo → Gave → TrafSo
 trafNow so nothing = so
 trafNow so (headed r) = record { track = track.Headed r; seen = so .seen }
-trafNow so (timed o) = record { track = track.Timed; seen = saw (so .seen) o }
+trafNow so (timed r pos v) = record { track = track.Timed; seen = saw (so .seen) r v }
 
 -- row 16: one missing (end of `traf`, place `traf`)
 unfoldable pub lacking : ℕ → Track → List Refusal
@@ -102,16 +98,16 @@ lacking pos track.Fresh = shows true 16 pos
 lacking pos (track.Headed r) = shows true 16 pos
 lacking pos track.Timed = []
 
--- the list goes on, or it ends where the `traf` does
-unfoldable pub trafNext : Span → TrafSo → ℕ → Next TrafSo Seen
-trafNext span so n = pick (eqb n (span .end)) (over (so .seen) (lacking (span .pos) (so .track))) (again so)
+-- the list goes on, or it ends where the `traf` does; `xs` are the faults that its last box shows
+unfoldable pub trafNext : Span → TrafSo → List Refusal → ℕ → Next TrafSo Seen
+trafNext span so xs n = pick (eqb n (span .end)) (over (so .seen) (xs ++ lacking (span .pos) (so .track))) (again so xs)
 
 abbrev pub trafBoxes : ℕ → Span → Boxes TrafSo TrafBody Gave Seen Flow Left
 trafBoxes id span =
     record {
       kept = left;
       box = λ so. trafBox id (span .end) so;
-      close = λ so gave f n. trafNext span (trafNow so gave) n;
+      close = λ so gave f n. trafNext span (trafNow so gave) (fallFaults (so .seen .last) gave) n;
       beside = λ so kept n. pick (eqb n (span .end)) (lacking (span .pos) (so .track)) [];
     }
 
@@ -128,4 +124,4 @@ trafSo0 seen = record { track = track.Fresh; seen = seen }
 
 -- a `traf` begins, and may end at once
 abbrev pub beginTrafBoxes : ℕ → Span → Seen → Flow → ℕ → Sub TrafBoxes Seen Flow Left
-beginTrafBoxes id span seen f n = goOn (trafBoxes id span) wrapTraf (trafNext span (trafSo0 seen) n) f
+beginTrafBoxes id span seen f n = goOn (trafBoxes id span) wrapTraf (trafNext span (trafSo0 seen) [] n) f

@@ -10,10 +10,11 @@ pub struct Span {
     pub end: u64,
 }
 
-// The decode times of the reference track in this leaf: whether it has shown any, and the first.
+// The decode times of the reference track: whether this leaf has shown any, its first, and the last in the segment so far.
 pub struct Seen {
     pub any: bool,
     pub first: u64,
+    pub last: u64,
 }
 
 // How far a `traf` has come: no `tfhd` yet, `tfhd` read, `tfdt` read.
@@ -233,7 +234,8 @@ pub enum Stage {
 }
 
 // The state: in the segment, at the end of its material, after a kept refusal, or after an accepted finish.
-// `count` bytes were read and `leaves` leaves listed; the next entry starts at the time `now`; `last` is the last decode time.
+// `count` bytes were read and `leaves` leaves listed; the next entry starts at the time `now`; `last` is the last decode time of the
+// leaves listed.
 pub enum State {
     Reading {
         count: u64,
