@@ -1,3 +1,4 @@
 pub mod SidxRun
 pub mod OpeningRun
 pub mod LeafRun
+pub mod SegmentRun

@@ -64,7 +64,7 @@ push (levels.Two a b) l = levels.Three a b l
 push (levels.Three a b c) l = levels.Four a b c l
 push (levels.Four a b c d) l = levels.Four a b c d
 
--- the indexes that still have an entry to come: those that have none are closed from the innermost on
+-- the indexes that still have an entry to come: those that have none left are closed, from the innermost on
 abbrev pub passedAll : Level → Bool
 passedAll l = eqb (l .next) (l .count)
 

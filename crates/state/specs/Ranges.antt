@@ -197,7 +197,7 @@ innerBounds ls (inners.Body span s) = below (depth ls) 4 ∷ sidxBounds s
 
 unfoldable pub stageBounds : Stage → ℕ → List Bound
 stageBounds (stage.Opening brand s) now = openingBounds s
-stageBounds (stage.Gap top l end s) now = topBounds top ++ (levelBounds l ++ (below (l .next) (l .count) ∷ atMost now (l .until) ∷ gapBounds s))
+stageBounds (stage.Gap top l end s) now = topBounds top ++ (levelBounds l ++ (atMost now (l .until) ∷ gapBounds s))
 stageBounds (stage.Entry top ls) now =
     topBounds top ++ (levelsBounds ls ++ (below (inmost ls .next) (inmost ls .count) ∷ atMost now (inmost ls .until) ∷ []))
 stageBounds (stage.Leaf top ls slot s) now = topBounds top ++ (levelsBounds ls ++ (slotBounds ls slot now ++ leafBounds s))

@@ -62,6 +62,15 @@ unfoldable pub stepGap : ℕ → GapBoxes → Flow → ℕ → ℕ → Sub GapBo
 stepGap end (gaps.Head h) f n b = stepBoxes (gapBoxes end) wrapGap tt (inHead h) f n b
 stepGap end (gaps.Body stop) f n b = stepBoxes (gapBoxes end) wrapGap tt (inBody stop) f n b
 
+-- The indexes that still have an entry to come, or the end of the material.
+unfoldable pub onward : Top → Option Levels → Flow → Sub'
+onward top none f = done top f
+onward top (some ls) f = go (stage.Entry top ls) f
+
+-- what follows a leaf, an index or the gap
+abbrev pub follow : Top → Levels → Flow → Sub'
+follow top ls f = onward top (stillOpen ls) f
+
 -- What the top index says of the segment; where and when its material ends. It ends at byte n.
 abbrev pub topOf : Index → Top
 topOf x = record { id = x .id; scale = x .scale; start = x .time; durations = x .durations }
@@ -73,7 +82,7 @@ topLevel x n = record { next = 0; count = x .count; end = n + x .offset + x .siz
 unfoldable pub indexEnds : Index → Flow → ℕ → Sub'
 indexEnds x f n =
     pick (eqb (x .offset) 0)
-    (go (stage.Entry (topOf x) (levels.One (topLevel x n))) (withNow f (x .time)))
+    (follow (topOf x) (levels.One (topLevel x n)) (withNow f (x .time)))
     (go (stage.Gap (topOf x) (topLevel x n) (n + x .offset) (gaps.Head at.First)) (withNow f (x .time)))
 
 -- The first box of an index entry: an inner index, with the entry's size and duration to fill.
@@ -107,15 +116,10 @@ innerLevel x slot = record { next = 0; count = x .count; end = slot .end; until 
 -- after an inner index its entries follow
 abbrev pub liftInner : Top → Levels → Slot → Sub (Box InnerBody) Index Flow Left → Sub'
 liftInner top ls slot r =
-    lift (λ s. stage.Inner top ls slot (wrapInner s)) (λ x f. go (stage.Entry top (push ls (innerLevel x slot))) f) bad r
+    lift (λ s. stage.Inner top ls slot (wrapInner s)) (λ x f. follow top (push ls (innerLevel x slot)) f) bad r
 
 abbrev pub stepInner : Top → Levels → Slot → Box InnerBody → Flow → ℕ → ℕ → Sub'
 stepInner top ls slot s f n b = liftInner top ls slot (stepBox (innerKind top slot (depth ls)) s f n b)
-
--- what is left when a leaf or an index ends: the next entry, or the end of the material
-unfoldable pub onward : Top → Option Levels → Flow → Sub'
-onward top none f = done top f
-onward top (some ls) f = go (stage.Entry top ls) f
 
 -- a leaf's record: position, size, start, duration, SAP word, first decode time of the reference track
 abbrev pub leafRow : Slot → ℕ → ℕ → List ℕ
@@ -123,7 +127,7 @@ leafRow slot now first = slot .pos ∷ (slot .end - slot .pos) ∷ now ∷ (slot
 
 abbrev pub liftLeaf : Top → Levels → Slot → Sub LeafBoxes Seen Flow Left → Sub'
 liftLeaf top ls slot r =
-    lift (stage.Leaf top ls slot) (λ seen f. onward top (stillOpen ls) (listed f (leafRow slot (f .now) (seen .first)) (slot .until) (seen .last))) bad r
+    lift (stage.Leaf top ls slot) (λ seen f. follow top ls (listed f (leafRow slot (f .now) (seen .first)) (slot .until) (seen .last))) bad r
 
 abbrev pub stepInLeaf : Top → Levels → Slot → LeafBoxes → Flow → ℕ → ℕ → Sub'
 stepInLeaf top ls slot s f n b = liftLeaf top ls slot (stepLeaf (top .id) slot s f n b)
@@ -140,7 +144,7 @@ stepEntry top ls e f n b =
 
 unfoldable pub stepStage : Stage → Flow → ℕ → ℕ → Sub'
 stepStage (stage.Opening brand s) f n b = lift (stage.Opening brand) (λ x g. indexEnds x g (suc n)) bad (stepOpening brand s f n b)
-stepStage (stage.Gap top l end s) f n b = lift (stage.Gap top l end) (λ u g. go (stage.Entry top (levels.One l)) g) bad (stepGap end s f n b)
+stepStage (stage.Gap top l end s) f n b = lift (stage.Gap top l end) (λ u g. follow top (levels.One l) g) bad (stepGap end s f n b)
 stepStage (stage.Entry top ls) f n b = stepEntry top ls (entryAt (f .work) (entryPlace ls)) f n b
 stepStage (stage.Leaf top ls slot s) f n b = stepInLeaf top ls slot s f n b
 stepStage (stage.Inner top ls slot (inners.Head h)) f n b = stepInner top ls slot (inHead h) f n b
