@@ -42,3 +42,9 @@ pub pick-if : {A C : Type 0} (t : Bool) (F : A → C) (x y : A) (c : C) → (t �
 unfolding pick
 pick-if true F x y c p q = p refl
 pick-if false F x y c p q = q refl
+
+-- what holds of both choices holds of the one taken; each case may use what the test says
+pub pick-holds : {A : Type 0} (K : A → Type 0) (t : Bool) (x y : A) → (t ≡ true → K x) → (t ≡ false → K y) → K (pick t x y)
+unfolding pick
+pick-holds K true x y p q = p refl
+pick-holds K false x y p q = q refl

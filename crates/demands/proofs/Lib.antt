@@ -2,3 +2,4 @@ pub mod SidxRun
 pub mod OpeningRun
 pub mod LeafRun
 pub mod SegmentRun
+pub mod LawD

@@ -19,7 +19,7 @@ use Rattle.machine.specs.Lists.{Box, inHead, inBody, faultsOf, stepBox, stepBox
 use Rattle.machine.specs.declared.Refusal.{Refusal}
 use Rattle.machine.specs.declared.Header.{Header}
 use Rattle.machine.specs.declared.Head.the-variants as at
-use Rattle.machine.proofs.Faults.{unless-both, none-both, shows-none}
+use Rattle.machine.proofs.Faults.{unless-both, none-first, none-second, shows-none}
 use Rattle.machine.proofs.Runs.{inside, after-cong, after-assoc, after-okay}
 use Rattle.machine.proofs.Fields.{skip-run}
 use Rattle.machine.proofs.Lists.{box-run, boxes-run}
@@ -89,10 +89,9 @@ module _ (top : Top) (slot : Slot) (around : ℕ) where
 deep-faults : (h : Header) → innerFaults 4 h ≡ [] → ⊥
 unfolding innerFaults
 deep-faults h e =
-    let a = none-both (topLengths h) _ e .1 in
-    let b = none-both (shows (is h styp) 7 (h .pos)) _ a .1 in
-    let c = none-both (shows (not (is h sidx)) 9 (h .pos)) _ b in
-    at (is h sidx) (shows-none (not (is h sidx)) 9 (h .pos) (c .0)) (shows-none (is h sidx && leb mostLevels 4) 13 (h .pos) (c .1))
+    let a = none-second (topLengths h) _ e in
+    let b = none-second (shows (is h styp) 7 (h .pos)) _ a in
+    at (is h sidx) (shows-none (not (is h sidx)) 9 (h .pos) (none-first (shows (not (is h sidx)) 9 (h .pos)) _ b)) (shows-none (is h sidx && leb mostLevels 4) 13 (h .pos) (none-second (shows (not (is h sidx)) 9 (h .pos)) _ b))
   where
     at : (t : Bool) → not t ≡ false → (t && leb mostLevels 4) ≡ false → ⊥
     at true p q = true≢false q
@@ -114,7 +113,7 @@ too-deep : (top : Top) (slot : Slot) (f : Flow) (n : ℕ) (bs : List ℕ) (x : I
 unfolding boxD
 too-deep top slot f n bs x g m cs e =
     not-okay (headD left (slot .end) f n bs) (faultsOf (innerKind top slot 4)) (λ h g'. left g') (λ h g' m' cs'. sidxD (under top slot 4) (spanOf h) g' m' cs')
-    (λ h g' q. deep-faults h (none-both (sizeFaults (slot .end) h) (innerFaults 4 h) q .1)) x g m cs e
+    (λ h g' q. deep-faults h (none-second (sizeFaults (slot .end) h) (innerFaults 4 h) q)) x g m cs e
 
 -- The parts of the segment inside its machine.
 in-opening : (brand n : ℕ) (bs : List ℕ) (r : Sub OpeningBoxes Index Flow Left) →

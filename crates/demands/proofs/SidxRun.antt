@@ -8,11 +8,11 @@ use lib.Dec.{eqb, ltb}
 use borrow.Author.Tests.{eq-eqb, ne-eqb}
 use Rattle.basics.specs.Choose.{pick}
 use Rattle.basics.proofs.Picks.{pick-yes, pick-no}
-use Rattle.basics.proofs.Tests.{or-left}
+use Rattle.basics.proofs.Tests.{or-neither}
 use Rattle.segment.specs.Constants.{entryBytes, mostEntries}
 use Rattle.machine.specs.Faults.{shows, unless}
 use Rattle.machine.specs.Run.{Sub, go, done, bad, Res, okay, fail, cut, contBy, run, cont, fieldD, plain}
-use Rattle.machine.proofs.Faults.{unless-both, unless-with, none-both, shows-none}
+use Rattle.machine.proofs.Faults.{unless-both, unless-with, none-second, shows-none}
 use Rattle.machine.proofs.Fields.{field-run}
 use Rattle.state.specs.declared.Span.{Span}
 use Rattle.state.specs.declared.Draft.{Draft}
@@ -81,9 +81,9 @@ module _ (p : Place) (span : Span) where
   unfolding countFaults
   count-some v n e =
       let zero-or-many = eqb v 0 || ltb mostEntries v in
-      or-left (eqb v 0) (ltb mostEntries v)
+      or-neither (eqb v 0) (ltb mostEntries v)
       (shows-none zero-or-many 11 (span .pos)
-      (none-both (shows (not (eqb (span .end) (n + entryBytes * v))) 6 (span .pos)) (shows zero-or-many 11 (span .pos)) e .1))
+      (none-second (shows (not (eqb (span .end) (n + entryBytes * v))) 6 (span .pos)) (shows zero-or-many 11 (span .pos)) e)) .0
 
   count-run : (d : Draft) (v : ℕ) (f : Flow) (n : ℕ) (bs : List ℕ) → countD p span d v f n bs ≡ X n bs (fieldEnds p span part.Count d v f n)
   unfolding countD fieldEnds contBy

@@ -2,7 +2,7 @@
 use mathlib.Core.Path.{_≡_, refl}
 use Prim.Native.Nat.{ℕ}
 use mathlib.Core.Bool.{Bool, true, false}
-use mathlib.Core.List.{List, [], _∷_, _++_}
+use mathlib.Core.List.{List, [], _∷_, _++_, append-eq-nil-iff}
 use native.Mathlib.Omega.{arith}
 use Rattle.machine.specs.Faults.{shows, lowest, unless}
 use Rattle.machine.specs.declared.Refusal.{Refusal}
@@ -25,10 +25,12 @@ pub unless-none : {X : Type 0} (xs : List Refusal) (worse : Refusal → X) (x : 
 unfolding unless
 unless-none xs worse x e = rw e
 
--- no faults in two lists are none in either
-pub none-both : (xs ys : List Refusal) → xs ++ ys ≡ [] → (xs ≡ []) × (ys ≡ [])
-none-both [] ys e = (refl, e)
-none-both (x ∷ xs) ys e = let z : _≡_ {A = ℕ} 0 1 = cc in absurd (omega arith)
+-- of two lists of faults, none is shown in either
+pub none-first : (xs ys : List Refusal) → xs ++ ys ≡ [] → xs ≡ []
+none-first xs ys e = append-eq-nil-iff .0 e .0
+
+pub none-second : (xs ys : List Refusal) → xs ++ ys ≡ [] → ys ≡ []
+none-second xs ys e = append-eq-nil-iff {p = xs} .0 e .1
 
 -- where no fault is shown the test fails
 pub shows-none : (t : Bool) (n p : ℕ) → shows t n p ≡ [] → t ≡ false

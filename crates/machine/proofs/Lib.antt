@@ -4,3 +4,5 @@ pub mod Fields
 pub mod Heads
 pub mod Lists
 pub mod Limits
+pub mod Kept
+pub mod Left

@@ -9,3 +9,5 @@ pub mod Stages
 pub mod Step
 pub mod Ranges
 pub mod Calls
+pub mod Named
+pub mod Parts

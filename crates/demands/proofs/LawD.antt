@@ -1,0 +1,128 @@
+-- Law D: start, one feed of all the bytes and finish give what the descent gives: answer, state, work area and leaf table.
+use Prim.Native.Nat.{ℕ, zero, suc, _+_, _-_, _≤_, _<_}
+use mathlib.Core.Path.{_≡_, refl, ap, sym, _∙_}
+use mathlib.Core.List.{List, [], _∷_, _++_}
+use mathlib.Core.Bool.{Bool, true, false}
+use mathlib.Core.Logic.{_⊎_, inl, inr}
+use native.Mathlib.Omega.{arith}
+use borrow.Author.Tests.{lt-ltb, le-ltb}
+use lib.Dec.{eqb, ltb}
+use lib.ListN.{length, take, drop}
+use Rattle.basics.specs.Choose.{pick}
+use Rattle.basics.specs.Bytes.{AllBytes}
+use Rattle.basics.proofs.Picks.{lt-or-ge, pick-yes, pick-no}
+use Rattle.segment.specs.Constants.{limit, workBytes}
+use Rattle.machine.specs.Faults.{shows, refusal, unless, lowest}
+use Rattle.machine.specs.Run.{Sub, go, done, bad, Res, okay, fail, cut, contBy, cont}
+use Rattle.machine.specs.Run.{run as runs}
+use Rattle.machine.specs.Limit.{limited, beyond}
+use Rattle.machine.proofs.Limits.{limit-run}
+use Rattle.machine.specs.declared.Refusal.{Refusal}
+use Rattle.state.specs.declared.Top.{Top}
+use Rattle.state.specs.declared.Stage.{Stage}
+use Rattle.state.specs.declared.State.{State}
+use Rattle.state.specs.declared.State.the-variants as state
+use Rattle.state.specs.declared.FeedAnswer.{FeedAnswer}
+use Rattle.state.specs.declared.FeedAnswer.the-variants as feeds
+use Rattle.state.specs.declared.FinishAnswer.{FinishAnswer}
+use Rattle.state.specs.declared.FinishAnswer.the-variants as finishes
+use Rattle.state.specs.Flow.{Flow, Left, left}
+use Rattle.state.specs.Stages.{stepStage}
+use Rattle.state.specs.Step.{World, reading, ended, refused, settle, pastLimit, pastMaterial, step, run, stage0, flow0}
+use Rattle.state.specs.Ranges.{inRange, within, bounds, stageBounds, openingBounds, headBounds}
+use Rattle.state.specs.Calls.{Out, out, stateOf, workOf, tableOf, answerOf, fed, startOf, feedState, feedOf, finishState, finishOf, finishAfter, wholeOf}
+use Rattle.state.proofs.RangeTests.{in-range}
+use Rattle.state.proofs.Cuts.{feed-short}
+use Rattle.state.proofs.Ranges.{start-in-range, run-kept}
+use Rattle.descent.specs.Whole.{segmentD, outcome, readD, wholeD}
+use Rattle.demands.proofs.SegmentRun.{segment-run}
+
+-- what is past the limit
+abbrev over : Refusal
+over = refusal 3 limit
+
+-- what finish makes of a reading
+unfoldable outcomeOf : World → Out FinishAnswer
+outcomeOf (reading n s f) = out (finishes.Refused (refusal 20 n)) (state.Refused n (f .leaves) (refusal 20 n)) (f .work) (f .table)
+outcomeOf (ended n top kept) = out (finishes.Listed (kept .leaves)) (state.Accepted n (kept .leaves) top) (kept .work) (kept .table)
+outcomeOf (refused n x kept) = out (finishes.Refused x) (state.Refused n (kept .leaves) x) (kept .work) (kept .table)
+
+-- a refused reading stays as it is
+run-refused : (n : ℕ) (x : Refusal) (kept : Left) (bs : List ℕ) → run (refused n x kept) bs ≡ refused n x kept
+unfolding run step
+run-refused n x kept [] = refl
+run-refused n x kept (b ∷ bs) = run-refused n x kept bs
+
+-- one byte is the machine's step under the limit
+step-limited : (s : Stage) (f : Flow) (n b : ℕ) → step (reading n s f) b ≡ settle (suc n) (limited left limit over stepStage s f n b)
+unfolding step limited settle unless pick shows lowest
+step-limited s f n b = at (eqb n limit)
+  where
+    at : (t : Bool) → unless (shows t 3 limit) (λ x. refused (suc n) x (left f)) (settle (suc n) (stepStage s f n b)) ≡ settle (suc n) (pick t (bad over (left f)) (stepStage s f n b))
+    at true = refl
+    at false = refl
+
+abbrev C : ℕ → List ℕ → Sub Stage Top Flow Left → Res Top Flow Left
+C n bs r = cont left (limited left limit over stepStage) n bs r
+
+-- the fold and its finish are the run under the limit
+settled : (bs : List ℕ) → ((n : ℕ) (s : Stage) (f : Flow) → outcomeOf (run (reading n s f) bs) ≡ outcome (runs left (limited left limit over stepStage) s f n bs)) →
+    (n : ℕ) (r : Sub Stage Top Flow Left) → outcomeOf (run (settle n r) bs) ≡ outcome (C n bs r)
+unfolding settle contBy outcome outcomeOf run step
+settled bs h n (go s f) = h n s f
+settled [] h n (done top f) = refl
+settled (b ∷ bs) h n (done top f) = ap outcomeOf (run-refused (suc n) (lowest (pastMaterial n) (pastLimit n)) (left f) bs)
+settled bs h n (bad x kept) = ap outcomeOf (run-refused n x kept bs)
+
+fold-run : (bs : List ℕ) (n : ℕ) (s : Stage) (f : Flow) → outcomeOf (run (reading n s f) bs) ≡ outcome (runs left (limited left limit over stepStage) s f n bs)
+unfolding run runs outcomeOf outcome
+fold-run [] n s f = refl
+fold-run (b ∷ bs) n s f = ap (λ w. outcomeOf (run w bs)) (step-limited s f n b) ∙ settled bs (fold-run bs) (suc n) (limited left limit over stepStage s f n b)
+
+-- finish after a feed, of a reading inside its ranges
+finish-inside : (s : State) → inRange s ≡ true → finishOf s ≡ finishState s
+unfolding finishOf
+finish-inside s e = pick-yes (inRange s) _ _ e
+
+finish-fed : (w : World) → inRange (stateOf w) ≡ true → finishAfter (fed w) (answerOf w) ≡ outcomeOf w
+unfolding finishAfter answerOf outcomeOf finishState stateOf workOf tableOf
+finish-fed (reading n s f) e = rw (finish-inside (state.Reading n (f .leaves) (f .now) (f .last) s) e)
+finish-fed (ended n top kept) e = rw (finish-inside (state.Ended n (kept .leaves) top) e)
+finish-fed (refused n x kept) e = refl
+
+-- the feed of all the bytes, from the start
+module _ (brand : ℕ) (bytes work table : List ℕ) where
+  abbrev after-all : World
+  after-all = run (reading 0 (stage0 brand) (flow0 work table)) bytes
+
+  feed-start : workBytes ≤ length work → feedOf (startOf brand) bytes work table ≡ fed after-all
+  unfolding feedOf feedState
+  feed-start long =
+      pick-no (ltb (length work) workBytes) _ _ (le-ltb (length work) workBytes long)
+      ∙ pick-yes (inRange (startOf brand)) _ _ (in-range (startOf brand) .1 (start-in-range brand))
+
+  -- inside the two calls: what is read is the descent's reading
+  read-whole : outcomeOf after-all ≡ outcome (readD brand bytes work table)
+  read-whole =
+      fold-run bytes 0 (stage0 brand) (flow0 work table)
+      ∙ ap outcome
+      (limit-run left limit over stepStage bytes (stage0 brand) (flow0 work table) 0 (omega arith)
+      ∙ ap (λ (r : Res Top Flow Left). beyond over r (drop limit bytes)) (sym (segment-run brand (flow0 work table) 0 (take limit bytes))))
+
+  -- Law D.
+  abbrev finish-out : Out FeedAnswer → Out FinishAnswer
+  finish-out o = finishAfter o (o .answer)
+
+  pub law-d : AllBytes bytes → wholeD brand bytes work table ≡ wholeOf brand bytes work table
+  unfolding wholeD finishAfter stateOf
+  law-d all = at (lt-or-ge (length work) workBytes)
+    where
+      at : (length work < workBytes) ⊎ (workBytes ≤ length work) → wholeD brand bytes work table ≡ wholeOf brand bytes work table
+      at (inl short) =
+          pick-yes (ltb (length work) workBytes) _ _ (lt-ltb (length work) workBytes short)
+          ∙ ap finish-out (sym (feed-short (startOf brand) bytes work table short))
+      at (inr long) =
+          pick-no (ltb (length work) workBytes) _ _ (le-ltb (length work) workBytes long)
+          ∙ sym read-whole
+          ∙ sym (finish-fed after-all (in-range (stateOf after-all) .1 (run-kept (reading 0 (stage0 brand) (flow0 work table)) bytes all (start-in-range brand))))
+          ∙ ap finish-out (sym (feed-start long))

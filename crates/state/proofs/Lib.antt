@@ -1,0 +1,12 @@
+pub mod RangeTests
+pub mod RangeKept
+pub mod RangeLeaf
+pub mod RangeSidx
+pub mod RangeOpening
+pub mod RangeLevels
+pub mod RangeStages
+pub mod Ranges
+pub mod Frames
+pub mod Cuts
+pub mod Kept
+pub mod Past
