@@ -6,3 +6,4 @@ pub mod Lists
 pub mod Limits
 pub mod Kept
 pub mod Left
+pub mod Lowest

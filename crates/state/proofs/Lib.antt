@@ -10,3 +10,4 @@ pub mod Frames
 pub mod Cuts
 pub mod Kept
 pub mod Past
+pub mod Edges
