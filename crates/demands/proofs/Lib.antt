@@ -3,3 +3,4 @@ pub mod OpeningRun
 pub mod LeafRun
 pub mod SegmentRun
 pub mod LawD
+pub mod Upons

@@ -1,0 +1,80 @@
+-- Laws of what is made of an accepted reading.
+use Prim.Native.Nat.{ℕ, zero, suc, _+_, _≤_, _<_}
+use mathlib.Core.Path.{_≡_, refl, ap, sym, _∙_}
+use mathlib.Core.List.{List, [], _∷_, _++_}
+use mathlib.Core.Option.{Option, some, none}
+use mathlib.Core.Bool.{Bool, true, false, not, _&&_}
+use native.Mathlib.Omega.{arith}
+use lib.ListN.{length, take, drop}
+use Rattle.basics.specs.Choose.{pick, andThen}
+use Rattle.basics.specs.Bytes.{numberFrom}
+use Rattle.machine.specs.Faults.{shows, unless}
+use Rattle.machine.specs.Run.{Res, okay, fail, cut, either, after, fieldD, plain, skipD}
+use Rattle.machine.specs.declared.Refusal.{Refusal}
+use Rattle.machine.proofs.Fields.{field-take, field-short, skip-take, skip-short}
+use Rattle.state.specs.Flow.{Flow, Left, left}
+use Rattle.demands.specs.Told.{upon, clean}
+
+module _ {R Q X : Type 0} where
+  -- a reading after another
+  pub upon-either : (r : Res R Flow Left) (m : R → Flow → ℕ → List ℕ → Res Q Flow Left) (worse : Refusal → Left → ℕ → Res Q Flow Left) (k : Q → Flow → ℕ → List ℕ → Option X) →
+      ((x : Refusal) (l : Left) (n : ℕ) → upon (worse x l n) k ≡ none) → upon (either r m worse) k ≡ upon r (λ q f n bs. upon (m q f n bs) k)
+  unfolding upon either
+  upon-either (okay q f n bs) m worse k h = refl
+  upon-either (fail x l n) m worse k h = h x l n
+  upon-either (cut l n) m worse k h = refl
+
+  pub upon-after : (r : Res R Flow Left) (m : R → Flow → ℕ → List ℕ → Res Q Flow Left) (k : Q → Flow → ℕ → List ℕ → Option X) → upon (after r m) k ≡ upon r (λ q f n bs. upon (m q f n bs) k)
+  unfolding upon
+  upon-after r m k = upon-either r m fail k (λ x l n. refl)
+
+pub upon-cong : {R X : Type 0} (r : Res R Flow Left) (k k' : R → Flow → ℕ → List ℕ → Option X) →
+    ((q : R) (f : Flow) (n : ℕ) (bs : List ℕ) → r ≡ okay q f n bs → k q f n bs ≡ k' q f n bs) → upon r k ≡ upon r k'
+unfolding upon
+upon-cong (okay q f n bs) k k' h = h q f n bs refl
+upon-cong (fail x l n) k k' h = refl
+upon-cong (cut l n) k k' h = refl
+
+-- a reading that gives something was accepted
+pub upon-okay : {R X : Type 0} (r : Res R Flow Left) (k : R → Flow → ℕ → List ℕ → Option X) → ((q : R) (f : Flow) (n : ℕ) (bs : List ℕ) → r ≡ okay q f n bs → k q f n bs ≡ none) → upon r k ≡ none
+unfolding upon
+upon-okay (okay q f n bs) k h = h q f n bs refl
+upon-okay (fail x l n) k h = refl
+upon-okay (cut l n) k h = refl
+
+-- faults that a byte shows
+pub upon-unless : {R X : Type 0} (xs : List Refusal) (l : Left) (n : ℕ) (r : Res R Flow Left) (k : R → Flow → ℕ → List ℕ → Option X) →
+    upon (unless xs (λ x. fail x l n) r) k ≡ pick (clean xs) (upon r k) none
+unfolding upon unless clean pick
+upon-unless [] l n r k = refl
+upon-unless (x ∷ xs) l n r k = refl
+
+pub clean-append : (xs ys : List Refusal) → clean (xs ++ ys) ≡ clean xs && clean ys
+unfolding clean
+clean-append [] ys = refl
+clean-append (x ∷ xs) ys = refl
+
+pub clean-shows : (t : Bool) (n p : ℕ) → clean (shows t n p) ≡ not t
+unfolding clean shows
+clean-shows true n p = refl
+clean-shows false n p = refl
+
+pub clean-none : (xs : List Refusal) → clean xs ≡ true → xs ≡ []
+unfolding clean
+clean-none [] e = refl
+clean-none (x ∷ xs) e = let z : _≡_ {A = ℕ} 0 1 = cc in absurd (omega arith)
+
+-- two tests, one after the other
+pub pick-and : {A : Type 0} (s t : Bool) (o : Option A) → pick (s && t) o none ≡ pick s (pick t o none) none
+unfolding pick
+pick-and true t o = refl
+pick-and false t o = refl
+
+-- a number, and bytes that are skipped, where there are enough bytes and where there are not
+module _ {R X : Type 0} (k : ℕ → Flow → ℕ → List ℕ → Res R Flow Left) (h : R → Flow → ℕ → List ℕ → Option X) where
+  pub upon-field : (m : ℕ) (f : Flow) (n : ℕ) (bs : List ℕ) → m ≤ length bs → upon (fieldD left plain k m 0 f n bs) h ≡ upon (k (numberFrom 0 (take m bs)) f (n + m) (drop m bs)) h
+  upon-field m f n bs l = ap (λ r. upon r h) (field-take left k m 0 f n bs l)
+
+  pub upon-few : (m : ℕ) (f : Flow) (n : ℕ) (bs : List ℕ) → length bs < m → upon (fieldD left plain k m 0 f n bs) h ≡ none
+  unfolding upon
+  upon-few m f n bs l = ap (λ r. upon r h) (field-short left k m 0 f n bs l)
