@@ -4,3 +4,4 @@ pub mod LeafRun
 pub mod SegmentRun
 pub mod LawD
 pub mod Upons
+pub mod Verdicts
