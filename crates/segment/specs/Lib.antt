@@ -2,3 +2,4 @@ pub mod Constants
 pub mod Boxes
 pub mod Leaves
 pub mod Tree
+pub mod Parts
