@@ -1,3 +1,4 @@
 pub mod Edges
 pub mod Spans
 pub mod Ticks
+pub mod Stands
