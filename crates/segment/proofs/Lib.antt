@@ -2,3 +2,4 @@ pub mod Edges
 pub mod Spans
 pub mod Ticks
 pub mod Stands
+pub mod Bytes
