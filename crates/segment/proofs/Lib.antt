@@ -3,3 +3,4 @@ pub mod Spans
 pub mod Ticks
 pub mod Stands
 pub mod Bytes
+pub mod NonEmpty
