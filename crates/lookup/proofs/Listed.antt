@@ -79,12 +79,12 @@ unfolding found
 found-exact ls rest t i l there here earlier =
     let below = at-below ls i l there in
     let lowest : Lowest (length ls) 0 (rowsOf ls ++ rest) t i =
-        record {
-          from = omega arith;
-          below = omega arith;
-          covering = covers-at ls rest t i l there ∙ here;
-          lower = λ m from to. let (k, at) = below-at ls m (omega arith) in covers-at ls rest t m k at ∙ earlier m k to at;
-        } in
+    record {
+      from = omega arith;
+      below = omega arith;
+      covering = covers-at ls rest t i l there ∙ here;
+      lower = λ m from to. let (k, at) = below-at ls m (omega arith) in covers-at ls rest t m k at ∙ earlier m k to at;
+    } in
     ap (λ (o : Option ℕ). found (length ls) (rowsOf ls ++ rest) t o) (lowest-covering (length ls) 0 (rowsOf ls ++ rest) t i lowest)
     ∙ ap (λ (r : Record). answer.Found (suc i) r) (record-of-leaf ls rest i l there)
 
@@ -127,8 +127,7 @@ found-leaf ls rest t n r = at (coveringFrom (length ls) 0 (rowsOf ls ++ rest) t)
         let below = lowest .below in
         let (l, there) = below-at ls i (omega arith) in
         let number : n ≡ suc i = cc in
-        let held : r ≡ recordAt (rowsOf ls ++ rest) i = cc in
-        (
+        let held : r ≡ recordAt (rowsOf ls ++ rest) i = cc in (
           i,
           l,
           there,
@@ -153,16 +152,18 @@ covered-found ls rest t i l there here = at (coveringFrom (length ls) 0 (rowsOf 
 -- A time is found exactly when some leaf covers it.
 pub lookup-covers : (ls : List Leaf) (rest : List ℕ) (t : ℕ) →
     ((n : ℕ) × (r : Record) × (lookIn (length ls) (rowsOf ls ++ rest) t ≡ answer.Found n r)) ↔ ((i : ℕ) × (l : Leaf) × At ls i l × (tree.covers t l ≡ true))
-lookup-covers ls rest t =
-    (λ (f : (n : ℕ) × (r : Record) × (lookIn (length ls) (rowsOf ls ++ rest) t ≡ answer.Found n r)).
-    let (i, l, there, here, number, held, earlier) = found-leaf ls rest t (f .0) (f .1) (f .2) in (i, l, there, here),
-    λ (c : (i : ℕ) × (l : Leaf) × At ls i l × (tree.covers t l ≡ true)). covered-found ls rest t (c .0) (c .1) (c .2) (c .3))
+lookup-covers ls rest t = (
+  λ (f : (n : ℕ) × (r : Record) × (lookIn (length ls) (rowsOf ls ++ rest) t ≡ answer.Found n r)).
+      let (i, l, there, here, number, held, earlier) = found-leaf ls rest t (f .0) (f .1) (f .2) in (i, l, there, here),
+  λ (c : (i : ℕ) × (l : Leaf) × At ls i l × (tree.covers t l ≡ true)). covered-found ls rest t (c .0) (c .1) (c .2) (c .3),
+)
 
 -- A time is refused exactly when no leaf covers it.
 pub lookup-refuses : (ls : List Leaf) (rest : List ℕ) (t : ℕ) → ((x : Refusal) × (lookIn (length ls) (rowsOf ls ++ rest) t ≡ answer.Refused x)) ↔ NoLeafCovers ls t
-lookup-refuses ls rest t =
-    (λ (f : (x : Refusal) × (lookIn (length ls) (rowsOf ls ++ rest) t ≡ answer.Refused x)) i l there. at (f .0) (f .1) i l there (tree.covers t l) refl,
-    λ h. (refusal (outsideNumber ls t) 0, refused-exact ls rest t h))
+lookup-refuses ls rest t = (
+  λ (f : (x : Refusal) × (lookIn (length ls) (rowsOf ls ++ rest) t ≡ answer.Refused x)) i l there. at (f .0) (f .1) i l there (tree.covers t l) refl,
+  λ h. (refusal (outsideNumber ls t) 0, refused-exact ls rest t h),
+)
   where
     at : (x : Refusal) → lookIn (length ls) (rowsOf ls ++ rest) t ≡ answer.Refused x → (i : ℕ) (l : Leaf) → At ls i l → (c : Bool) → tree.covers t l ≡ c → c ≡ false
     at x e i l there false here = refl
