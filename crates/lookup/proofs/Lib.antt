@@ -1,3 +1,4 @@
 pub mod Edges
 pub mod Covering
 pub mod Listed
+pub mod TheLeaf
