@@ -20,7 +20,7 @@ use Rattle.segment.proofs.Spans.{EndToEnd, end-on, inside, one-has}
 use Rattle.segment.proofs.Stands.{material-stands, inner-rest}
 
 -- what follows an answer
-then-goes : {A B : Type 0} (o : Option A) (k : A → Option B) (a : A) → o ≡ some a → andThen o k ≡ k a
+pub then-goes : {A B : Type 0} (o : Option A) (k : A → Option B) (a : A) → o ≡ some a → andThen o k ≡ k a
 unfolding andThen
 then-goes o k a e = rw e
 

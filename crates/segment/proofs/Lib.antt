@@ -4,3 +4,5 @@ pub mod Ticks
 pub mod Stands
 pub mod Bytes
 pub mod NonEmpty
+pub mod Contents
+pub mod Belongs

@@ -16,7 +16,7 @@ use Rattle.basics.proofs.Options.{then-inv, pick-some, pick-else}
 use Rattle.segment.specs.Constants.{sidx, styp}
 use Rattle.segment.specs.Boxes.{provided, unless, among, Field, field, Box, boxOf, firstBox, stypBrands, Index, sidxIndex, sizes, durations}
 use Rattle.segment.specs.Tree.{topKinds, Opened, openIndex, firstIndex, topIndex, material, innerIndex}
-use Rattle.segment.specs.Parts.{indexEnd, materialStart}
+use Rattle.segment.specs.Parts.{Stands, indexEnd, materialStart}
 use Rattle.segment.proofs.Edges.{material-place}
 
 field-length : (width : ℕ) (xs : List ℕ) (f : Field) → field width xs ≡ some f → length xs ≡ width + length (f .rest)
@@ -65,17 +65,6 @@ opened-box b xs o e =
     let (i, e1, e2) = then-inv _ _ o e in
     let same = Option·some-injective _ _ e2 in
     (e1 ∙ ap (λ (p : Opened). some (p .index)) same, sym (ap (λ (p : Opened). p .size) same), sym (ap (λ (p : Opened). p .rest) same))
-
--- an index stands in a list of bytes: where its box starts, that it is a `sidx` which says the index, and what comes after it
-pub record Stands (xs : List ℕ) (o : Opened) : Type 0 where
-  pub start : ℕ
-  pub box : Box
-  pub there : firstBox (drop start xs) ≡ some box
-  pub kind : box .kind ≡ sidx
-  pub says : sidxIndex (box .body) ≡ some (o .index)
-  pub size : box .size ≡ o .size
-  pub rest : drop (start + o .size) xs ≡ o .rest
-  pub ends : start + o .size + length (o .rest) ≡ length xs
 
 first-stands : (k n : ℕ) (xs : List ℕ) (o : Opened) → n ≤ length xs → firstIndex k (drop n xs) ≡ some o → Stands xs o
 unfolding firstIndex pick
