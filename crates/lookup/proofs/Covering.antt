@@ -1,7 +1,7 @@
 -- Over any table at all: the record found is the lowest-numbered one that covers the time, and none is found only where none does.
 use Prim.Native.Nat.{ℕ, zero, suc, _+_, _≤_, _<_}
 use mathlib.Core.Path.{_≡_, refl, sym, ap, _∙_, subst}
-use mathlib.Core.List.{List, [], _∷_}
+use mathlib.Core.List.{List}
 use mathlib.Core.Logic.{_↔_, _⊎_, inl, inr}
 use mathlib.Core.Option.{Option, some, none, Option·some-injective, Option·none-ne-some}
 use mathlib.Core.Bool.{Bool, true, false}
@@ -89,3 +89,7 @@ covers-none (suc k) i table t h =
 -- Both together: a number is found exactly where it is the lowest that covers, and none exactly where none covers.
 pub covering-exact : (k i : ℕ) (table : List ℕ) (t : ℕ) → ((j : ℕ) → coveringFrom k i table t ≡ some j ↔ Lowest k i table t j) × (coveringFrom k i table t ≡ none ↔ NoneCovers k i table t)
 covering-exact k i table t = (λ j. (covering-lowest k i table t j, lowest-covering k i table t j), (none-covers k i table t, covers-none k i table t))
+
+-- Two lowest-numbered records that cover are the same.
+pub lowest-same : (k i : ℕ) (table : List ℕ) (t j j' : ℕ) → Lowest k i table t j → Lowest k i table t j' → j ≡ j'
+lowest-same k i table t j j' l l' = Option·some-injective _ _ (sym (lowest-covering k i table t j l) ∙ lowest-covering k i table t j' l')

@@ -1,24 +1,21 @@
 -- A table that starts with the records of a list of leaves: a time is answered with the lowest-numbered leaf that covers it, and refused
 -- exactly when none does. Where the leaves follow one another, as those of a segment do, that is the one leaf that covers it.
-use Prim.Native.Nat.{ℕ, zero, suc, _+_, _*_, _≤_, _<_}
-use mathlib.Core.Path.{_≡_, refl, sym, ap, _∙_, subst}
+use Prim.Native.Nat.{ℕ, zero, suc, _+_, _*_, _<_}
+use mathlib.Core.Path.{_≡_, refl, sym, ap, _∙_}
 use mathlib.Core.List.{List, [], _∷_, _++_}
-use mathlib.Core.Logic.{_↔_, _⊎_, inl, inr}
+use mathlib.Core.Logic.{_↔_}
 use mathlib.Core.Option.{Option, some, none, Option·some-injective, Option·none-ne-some}
 use mathlib.Core.Bool.{Bool, true, false, _&&_, true≢false}
 use native.Mathlib.Omega.{arith}
 use lib.Dec.{ltb, leb}
 use lib.ListN.{length, getD}
-use borrow.Author.Tests.{lt-ltb, le-ltb}
 use Rattle.basics.specs.Choose.{pick}
-use Rattle.basics.proofs.Picks.{lt-or-ge, pick-yes, pick-no}
 use Rattle.segment.specs.Tree.{Leaf}
 use Rattle.segment.specs.Tree as tree
-use Rattle.segment.specs.Parts.{At, One}
+use Rattle.segment.specs.Parts.{At}
 use Rattle.machine.specs.Faults.{refusal}
 use Rattle.machine.specs.declared.Refusal.{Refusal}
 use Rattle.lookup.specs.declared.Record.{Record}
-use Rattle.lookup.specs.declared.LookupAnswer.{LookupAnswer}
 use Rattle.lookup.specs.declared.LookupAnswer.the-variants as answer
 use Rattle.lookup.specs.Lookup.{recordAt, covers, coveringFrom, outside, found, lookIn}
 use Rattle.lookup.specs.Rows.{recordOf, rowOf, rowsOf, outsideNumber}

@@ -1,16 +1,15 @@
 -- Where the leaves follow one another, as those of a segment do, a time is answered with the one leaf that covers it, refused with 23
 -- before the first and with 24 past the last.
-use Prim.Native.Nat.{ℕ, zero, suc, _+_, _*_, _≤_, _<_}
+use Prim.Native.Nat.{ℕ, suc, _+_, _*_, _≤_, _<_}
 use mathlib.Core.Path.{_≡_, refl, sym, ap, _∙_}
 use mathlib.Core.List.{List, [], _∷_, _++_}
 use mathlib.Core.Logic.{_⊎_, inl, inr}
-use mathlib.Core.Option.{Option, some, none}
-use mathlib.Core.Bool.{Bool, true, false, true≢false}
+use mathlib.Core.Option.{some}
+use mathlib.Core.Bool.{Bool, true, false}
 use native.Mathlib.Omega.{arith}
 use lib.Dec.{ltb}
 use lib.ListN.{length, length-append}
 use borrow.Author.Tests.{lt-ltb, le-ltb}
-use Rattle.basics.specs.Choose.{pick}
 use Rattle.basics.proofs.Picks.{pick-yes, pick-no}
 use Rattle.segment.specs.Constants.{recordNumbers}
 use Rattle.segment.specs.Boxes.{durations}
@@ -21,10 +20,8 @@ use Rattle.segment.proofs.Ticks.{follow-tick, follow-within, leaves-span}
 use Rattle.segment.proofs.NonEmpty.{leaves-some}
 use Rattle.machine.specs.Faults.{refusal}
 use Rattle.state.specs.declared.Top.{Top}
-use Rattle.state.specs.declared.State.{State}
 use Rattle.state.specs.declared.State.the-variants as state
 use Rattle.state.specs.Ranges.{inRange}
-use Rattle.lookup.specs.declared.LookupAnswer.{LookupAnswer}
 use Rattle.lookup.specs.declared.LookupAnswer.the-variants as answer
 use Rattle.lookup.specs.Lookup.{lookIn, lookupState, lookupOf}
 use Rattle.lookup.specs.Rows.{recordOf, rowsOf, outsideNumber}
@@ -107,7 +104,7 @@ module _ (brand : ℕ) (xs : List ℕ) (ls : List Leaf) (top : Opened) (accepted
   pub segment-past : top .index .time + durations (top .index .entries) ≤ t → lookIn (length ls) (rowsOf ls ++ rest) t ≡ answer.Refused (refusal 24 0)
   segment-past = follow-past ls (top .index .time) (top .index .time + durations (top .index .entries)) (leaves-span brand xs ls top accepted opened) rest t
 
-rows-length : (ls : List Leaf) → length (rowsOf ls) ≡ recordNumbers * length ls
+pub rows-length : (ls : List Leaf) → length (rowsOf ls) ≡ recordNumbers * length ls
 unfolding rowsOf
 rows-length [] = refl
 rows-length (l ∷ ls) = let rest = rows-length ls in omega arith

@@ -2,7 +2,7 @@
 use Prim.Native.Nat.{ℕ, _+_}
 use mathlib.Core.Path.{_≡_, ap}
 use mathlib.Core.List.{List}
-use mathlib.Core.Option.{Option, some, none}
+use mathlib.Core.Option.{some}
 use Rattle.basics.proofs.Options.{then-inv, pick-some, pick-else}
 use Rattle.segment.specs.Tree.{Opened, topIndex, material, Leaf, segment}
 use Rattle.segment.specs.Parts.{Belongs}

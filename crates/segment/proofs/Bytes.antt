@@ -2,7 +2,7 @@
 use Prim.Native.Nat.{ℕ, zero, suc, _+_, _-_, _≤_, _<_}
 use mathlib.Core.Path.{_≡_, refl, sym, ap, ap₂, _∙_, subst}
 use mathlib.Core.List.{List, [], _∷_, _++_, map, map-append}
-use mathlib.Core.Option.{Option, some, none, Option·some-injective, Option·none-ne-some}
+use mathlib.Core.Option.{Option, some, Option·some-injective, Option·none-ne-some}
 use mathlib.Core.Bool.{Bool, true, false}
 use native.Mathlib.Omega.{arith}
 use lib.Dec.{eqb}
@@ -11,7 +11,7 @@ use lib.Seq.{length-take-le}
 use Rattle.basics.specs.Choose.{pick, andThen}
 use Rattle.basics.proofs.Options.{then-inv, pick-some, pick-else}
 use Rattle.segment.specs.Constants.{levels}
-use Rattle.segment.specs.Boxes.{Entry, sizes, durations}
+use Rattle.segment.specs.Boxes.{Entry, sizes}
 use Rattle.segment.specs.Leaves.{leafTimes}
 use Rattle.segment.specs.Tree.{Opened, topIndex, material, Leaf, Item, itemOf, Under, entryItems, tile, innerIndex, underIndex, leafOf, segment}
 use Rattle.segment.specs.Parts.{At, One, Part, leafPart, indexPart, positionOf, sizeOf, Holds, leavesIn, PartsUnder, entryParts, tileParts, underParts, segmentParts, materialStart}

@@ -1,8 +1,8 @@
 -- What stands in the bytes of each part: the boxes of a leaf, or one whole `sidx` box.
-use Prim.Native.Nat.{ℕ, zero, suc, _+_, _-_, _≤_, _<_}
+use Prim.Native.Nat.{ℕ, zero, suc, _+_, _-_, _≤_}
 use mathlib.Core.Path.{_≡_, refl, sym, ap, _∙_, subst}
 use mathlib.Core.List.{List, [], _∷_, _++_, append-assoc, append-nil}
-use mathlib.Core.Option.{Option, some, none, Option·some-injective, Option·none-ne-some}
+use mathlib.Core.Option.{some, Option·some-injective, Option·none-ne-some}
 use mathlib.Core.Bool.{Bool, true, false}
 use native.Mathlib.Omega.{arith}
 use lib.Dec.{eqb, ltb}
@@ -13,11 +13,11 @@ use Rattle.basics.specs.Choose.{pick, andThen}
 use Rattle.basics.specs.Bytes.{number}
 use Rattle.basics.proofs.Picks.{pick-no}
 use Rattle.basics.proofs.Options.{then-inv, pick-else}
-use Rattle.segment.specs.Constants.{levels, sidx}
+use Rattle.segment.specs.Constants.{levels}
 use Rattle.segment.specs.Boxes.{Field, field, Box, boxOf, firstBox, Entry, sizes}
 use Rattle.segment.specs.Leaves.{leafTimes}
-use Rattle.segment.specs.Tree.{Opened, topIndex, material, Leaf, itemOf, leafOf, innerIndex}
-use Rattle.segment.specs.Parts.{At, Part, leafPart, indexPart, PartsUnder, entryParts, tileParts, underParts, segmentParts, ReadsAs}
+use Rattle.segment.specs.Tree.{Opened, topIndex, material, itemOf, leafOf, innerIndex}
+use Rattle.segment.specs.Parts.{At, Part, leafPart, PartsUnder, entryParts, tileParts, underParts, segmentParts, ReadsAs}
 use Rattle.segment.proofs.Edges.{inner-says}
 use Rattle.segment.proofs.Stands.{material-stands, inner-rest}
 use Rattle.segment.proofs.Bytes.{then-goes}

@@ -1,8 +1,8 @@
 -- An accepted segment has a leaf: every index has an entry, and every entry has a leaf in it.
 use Prim.Native.Nat.{ℕ, zero, suc, _+_, _-_, _*_, _<_}
-use mathlib.Core.Path.{_≡_, refl, sym, ap, _∙_, subst}
-use mathlib.Core.List.{List, [], _∷_, _++_, map}
-use mathlib.Core.Option.{Option, some, none, Option·some-injective, Option·none-ne-some}
+use mathlib.Core.Path.{_≡_, sym, ap, _∙_, subst}
+use mathlib.Core.List.{List, [], _∷_}
+use mathlib.Core.Option.{some, Option·some-injective, Option·none-ne-some}
 use mathlib.Core.Bool.{Bool, true, false}
 use native.Mathlib.Omega.{arith}
 use lib.Dec.{eqb, ltb}
@@ -13,7 +13,7 @@ use Rattle.basics.proofs.Options.{then-inv, pick-some, pick-else}
 use Rattle.segment.specs.Constants.{entryBytes, mostEntries, levels}
 use Rattle.segment.specs.Boxes.{provided, unless, Entry, entryOf, entriesOf, Index, sidxIndex}
 use Rattle.segment.specs.Leaves.{leafTimes}
-use Rattle.segment.specs.Tree.{Opened, topIndex, material, Leaf, Item, itemOf, Under, entryItems, tile, innerIndex, underIndex, leafOf, segment}
+use Rattle.segment.specs.Tree.{Leaf, Item, itemOf, Under, entryItems, tile, innerIndex, underIndex, leafOf, segment}
 use Rattle.segment.proofs.Stands.{top-stands, inner-rest}
 
 entries-many : (n : ℕ) (xs : List ℕ) (es : List Entry) → entriesOf n xs ≡ some es → length es ≡ n

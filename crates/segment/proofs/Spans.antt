@@ -3,7 +3,7 @@ use Prim.Native.Nat.{ℕ, zero, suc, _+_, _≤_, _<_}
 use mathlib.Core.Path.{_≡_, refl, sym, ap, subst}
 use mathlib.Core.List.{List, [], _∷_, _++_}
 use mathlib.Core.Logic.{_⊎_, inl, inr}
-use mathlib.Core.Option.{Option, some, none, Option·some-injective, Option·none-ne-some}
+use mathlib.Core.Option.{Option·some-injective, Option·none-ne-some}
 use native.Mathlib.Omega.{arith}
 use Rattle.basics.proofs.Picks.{lt-or-ge}
 use Rattle.segment.specs.Parts.{At, One}

@@ -1,20 +1,19 @@
 -- Where boxes and indexes stand: a box ends within its bytes, the top index has a place in the segment, and what follows an index is
 -- what follows its box.
-use Prim.Native.Nat.{ℕ, zero, suc, _+_, _-_, _≤_, _<_}
-use mathlib.Core.Path.{_≡_, refl, sym, ap, _∙_, subst}
-use mathlib.Core.List.{List, [], _∷_, _++_}
-use mathlib.Core.Option.{Option, some, none, Option·some-injective, Option·none-ne-some}
+use Prim.Native.Nat.{ℕ, zero, suc, _+_, _-_, _≤_}
+use mathlib.Core.Path.{_≡_, refl, sym, ap, _∙_}
+use mathlib.Core.List.{List}
+use mathlib.Core.Option.{some, Option·some-injective, Option·none-ne-some}
 use mathlib.Core.Bool.{Bool, true, false}
 use native.Mathlib.Omega.{arith}
-use lib.Dec.{eqb, ltb}
-use lib.ListN.{length, take, drop, length-drop}
+use lib.Dec.{eqb}
+use lib.ListN.{length, drop, length-drop}
 use lib.Seq.{drop-drop}
 use borrow.Author.Tests.{eqb-true, ltb-false}
 use Rattle.basics.specs.Choose.{pick, andThen}
-use Rattle.basics.specs.Bytes.{number}
 use Rattle.basics.proofs.Options.{then-inv, pick-some, pick-else}
-use Rattle.segment.specs.Constants.{sidx, styp}
-use Rattle.segment.specs.Boxes.{provided, unless, among, Field, field, Box, boxOf, firstBox, stypBrands, Index, sidxIndex, sizes, durations}
+use Rattle.segment.specs.Constants.{sidx}
+use Rattle.segment.specs.Boxes.{unless, among, Field, field, Box, boxOf, firstBox, sidxIndex, sizes}
 use Rattle.segment.specs.Tree.{topKinds, Opened, openIndex, firstIndex, topIndex, material, innerIndex}
 use Rattle.segment.specs.Parts.{Stands, indexEnd, materialStart}
 use Rattle.segment.proofs.Edges.{material-place}

@@ -1,11 +1,10 @@
 -- Each tick from the stated start up to the start plus the sum of the top durations belongs to exactly one leaf, and no other tick to any.
 use Prim.Native.Nat.{ℕ, _+_, _≤_, _<_}
-use mathlib.Core.Path.{_≡_, refl, sym, _∙_, subst}
+use mathlib.Core.Path.{_≡_, sym, _∙_, subst}
 use mathlib.Core.List.{List, [], _∷_}
-use mathlib.Core.Option.{Option, some, none, Option·some-injective}
-use mathlib.Core.Bool.{Bool, true, false}
+use mathlib.Core.Option.{some, Option·some-injective}
+use mathlib.Core.Bool.{true}
 use native.Mathlib.Omega.{arith}
-use lib.Dec.{ltb, leb}
 use borrow.Author.Tests.{lt-ltb, le-leb}
 use Rattle.basics.specs.Choose.{pick}
 use Rattle.segment.specs.Boxes.{durations}

@@ -4,12 +4,12 @@ use Prim.Native.Nat.{ℕ, zero, suc, _+_, _-_, _≤_, _<_}
 use mathlib.Core.Path.{_≡_}
 use mathlib.Core.List.{List, [], _∷_, _++_}
 use mathlib.Core.Option.{Option, some, none}
-use mathlib.Core.Bool.{Bool, true, false}
+use mathlib.Core.Bool.{true}
 use lib.Dec.{eqb}
 use lib.ListN.{length, take, drop, getElem?}
 use Rattle.basics.specs.Choose.{pick, andThen}
 use Rattle.segment.specs.Constants.{levels, sidx}
-use Rattle.segment.specs.Boxes.{Box, firstBox, Entry, sizes, durations, Index, sidxIndex}
+use Rattle.segment.specs.Boxes.{Box, firstBox, Entry, sizes, durations, sidxIndex}
 use Rattle.segment.specs.Leaves.{leafTimes}
 use Rattle.segment.specs.Tree.{Opened, topIndex, material, Leaf, covers, firstTime, itemOf, leafOf, innerIndex}
 
