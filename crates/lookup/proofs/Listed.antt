@@ -1,5 +1,5 @@
 -- A table that starts with the records of a list of leaves: a time is answered with the lowest-numbered leaf that covers it, and refused
--- exactly when none does. Where the leaves follow one another, as those of a segment do, that is the one leaf that covers it.
+-- exactly when none does.
 use Prim.Native.Nat.{ℕ, zero, suc, _+_, _*_, _<_}
 use mathlib.Core.Path.{_≡_, refl, sym, ap, _∙_}
 use mathlib.Core.List.{List, [], _∷_, _++_}

@@ -53,8 +53,12 @@ module _ (track : ℕ) (under : Under) (parts : PartsUnder) (agree : (p s d : �
       let (items, p, q) = then-inv (entryItems track under position start e (take (e .size) xs)) _ is h in
       let (more, p', q') = then-inv (tile track under (position + e .size) (start + e .duration) es (drop (e .size) xs)) _ is q in
       let (ps, a, b) = entry-agree position start e (take (e .size) xs) items p in
-      let (qs, a', b') = tile-agree (position + e .size) (start + e .duration) es (drop (e .size) xs) more p' in
-      (ps ++ qs, then-goes (entryParts track parts position start e (take (e .size) xs)) _ ps a ∙ then-goes (tileParts track parts (position + e .size) (start + e .duration) es (drop (e .size) xs)) _ qs a', leaves-in-both ps qs ∙ ap₂ (λ (k l : List Leaf). k ++ l) b b' ∙ sym (map-append leafOf items more) ∙ ap (λ (js : List Item). map leafOf js) (Option·some-injective _ _ q'))
+      let (qs, a', b') = tile-agree (position + e .size) (start + e .duration) es (drop (e .size) xs) more p' in (
+        ps ++ qs,
+        then-goes (entryParts track parts position start e (take (e .size) xs)) _ ps a
+            ∙ then-goes (tileParts track parts (position + e .size) (start + e .duration) es (drop (e .size) xs)) _ qs a',
+        leaves-in-both ps qs ∙ ap₂ (λ (k l : List Leaf). k ++ l) b b' ∙ sym (map-append leafOf items more) ∙ ap (λ (js : List Item). map leafOf js) (Option·some-injective _ _ q'),
+      )
 
 under-agree : (id scale left p s d : ℕ) (ys : List ℕ) → Agree (underIndex id scale left p s d ys) (underParts id scale left p s d ys)
 unfolding underIndex underParts leavesIn andThen

@@ -108,8 +108,13 @@ material-stands brand xs ys top opened lies =
     let (long, rest) = material-place top ys lies in
     let left = length-drop (top .index .offset) (top .rest) in
     let same = ap length rest in
-    let start = index-end xs top stands in
-    (omega arith, omega arith, omega arith, sym rest ∙ ap (λ (zs : List ℕ). drop (top .index .offset) zs) (sym (stands .rest)) ∙ drop-drop (top .index .offset) (stands .start + top .size) xs ∙ ap (λ (n : ℕ). drop (n + top .index .offset) xs) (sym start))
+    let start = index-end xs top stands in (
+      omega arith,
+      omega arith,
+      omega arith,
+      sym rest ∙ ap (λ (zs : List ℕ). drop (top .index .offset) zs) (sym (stands .rest)) ∙ drop-drop (top .index .offset) (stands .start + top .size) xs
+          ∙ ap (λ (n : ℕ). drop (n + top .index .offset) xs) (sym start),
+    )
 
 -- What follows an inner index is what follows its box.
 pub inner-rest : (id scale start duration : ℕ) (xs : List ℕ) (inner : Opened) → innerIndex id scale start duration xs ≡ some inner →
