@@ -20,7 +20,7 @@ use Rattle.machine.specs.declared.Refusal.{Refusal}
 use Rattle.machine.specs.declared.Header.{Header}
 use Rattle.machine.specs.declared.Head.the-variants as at
 use Rattle.machine.proofs.Faults.{unless-both, none-first, none-second, shows-none}
-use Rattle.machine.proofs.Runs.{inside, after-cong, after-assoc, after-okay}
+use Rattle.machine.proofs.Runs.{inside, after-cong, after-assoc, after-okay, consumed-run}
 use Rattle.machine.proofs.Fields.{skip-run}
 use Rattle.machine.proofs.Lists.{box-run, boxes-run}
 use Rattle.state.specs.declared.Span.{Span}
@@ -57,7 +57,7 @@ use Rattle.demands.proofs.OpeningRun.{opening-run}
 use Rattle.demands.proofs.LeafRun.{leaf-run}
 
 -- what follows an answer of the segment's machine
-abbrev S : ℕ → List ℕ → Sub Stage Top Flow Left → Res Top Flow Left
+abbrev pub S : ℕ → List ℕ → Sub Stage Top Flow Left → Res Top Flow Left
 S n bs r = cont left stepStage n bs r
 
 -- The gap.
@@ -71,6 +71,15 @@ gap-run : (end : ℕ) (f : Flow) (n : ℕ) (bs : List ℕ) →
 gap-run end f n bs =
     boxes-run (gapBoxes end) wrapGap (stepGap end) (gap-steps end) (λ a. refl) (λ u h g m cs. skipTo tt (boxEnd h) g m cs)
     (λ a h g m cs. skip-run left (gapKind end .body) (boxEnd h) (boxEnd h) tt (λ i l b. refl) g m cs) (length bs) tt f n bs (omega arith)
+
+-- a gap that is accepted, and what is left, are all the bytes
+pub gap-consumed : (offset : ℕ) (f : Flow) (n : ℕ) (bs : List ℕ) (u : Unit {0}) (g : Flow) (m : ℕ) (cs : List ℕ) → gapD offset f n bs ≡ okay u g m cs → m + length cs ≡ n + length bs
+unfolding gapD pick
+gap-consumed offset f n bs u g m cs e = by (eqb offset 0) e
+  where
+    by : (t : Bool) → pick t (okay tt f n bs) (boxesD (gapBoxes (n + offset)) (λ v h g' m' cs'. skipTo tt (boxEnd h) g' m' cs') (length bs) tt f n bs) ≡ okay u g m cs → m + length cs ≡ n + length bs
+    by true q = let a : n ≡ m = cc in let b : bs ≡ cs = cc in rw (a, b)
+    by false q = consumed-run left (stepGap (n + offset)) (gaps.Head at.First) f n bs u g m cs (sym (gap-run (n + offset) f n bs) ∙ q)
 
 -- The first box of an index entry.
 module _ (top : Top) (slot : Slot) (around : ℕ) where
@@ -109,7 +118,7 @@ not-okay (fail x l n) xs k go' ne q g m cs e = let z : _≡_ {A = ℕ} 0 1 = cc 
 not-okay (cut l n) xs k go' ne q g m cs e = let z : _≡_ {A = ℕ} 0 1 = cc in omega arith
 
 -- no index is read on level 5
-too-deep : (top : Top) (slot : Slot) (f : Flow) (n : ℕ) (bs : List ℕ) (x : Index) (g : Flow) (m : ℕ) (cs : List ℕ) → innerD top slot 4 f n bs ≡ okay x g m cs → ⊥
+pub too-deep : (top : Top) (slot : Slot) (f : Flow) (n : ℕ) (bs : List ℕ) (x : Index) (g : Flow) (m : ℕ) (cs : List ℕ) → innerD top slot 4 f n bs ≡ okay x g m cs → ⊥
 unfolding boxD
 too-deep top slot f n bs x g m cs e =
     not-okay (headD left (slot .end) f n bs) (faultsOf (innerKind top slot 4)) (λ h g'. left g') (λ h g' m' cs'. sidxD (under top slot 4) (spanOf h) g' m' cs')
@@ -272,7 +281,7 @@ module _ (top : Top) where
       ∙ rw (p .inner, dp) (ap (λ o. after (entriesD (λ d l' g m cs. underD k top d l' g m cs) top (suc (depth ls)) (l .count) l f n bs) (rest o)) (p .outer))
 
   -- the top index
-  top-run : (l : Level) → l .next ≡ 0 → (f : Flow) (n : ℕ) (bs : List ℕ) → S n bs (follow top (levels.One l) f) ≡ after (underD 4 top 1 l f n bs) (λ u g m cs. okay top g m cs)
+  pub top-run : (l : Level) → l .next ≡ 0 → (f : Flow) (n : ℕ) (bs : List ℕ) → S n bs (follow top (levels.One l) f) ≡ after (underD 4 top 1 l f n bs) (λ u g m cs. okay top g m cs)
   unfolding underD inmost depth outerOpen onward contBy
   top-run l z f n bs = entries-run (λ d l' g m cs. underD 3 top d l' g m cs) (l .count) (levels.One l) (omega arith) (λ ms d h. opens 3 ms (omega arith) h) f n bs
 

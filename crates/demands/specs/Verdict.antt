@@ -1,6 +1,6 @@
 -- What a reading with a leaf table comes to, and what the tree says it should come to: fine with what it gives, full at the first leaf
 -- beyond the room, or wrong.
-use Prim.Native.Nat.{ℕ, zero, suc, _+_}
+use Prim.Native.Nat.{ℕ, zero, suc, _+_, _*_}
 use mathlib.Core.Path.{_≡_}
 use mathlib.Core.List.{List, [], _∷_}
 use mathlib.Core.Option.{Option, some, none}
@@ -9,7 +9,8 @@ use Rattle.basics.specs.Choose.{pick}
 use Rattle.segment.specs.Tree.{Leaf, Item}
 use Rattle.machine.specs.Run.{Res, okay, fail, cut}
 use Rattle.state.specs.declared.Seen.{Seen}
-use Rattle.state.specs.Flow.{Flow, Left, listed}
+use Rattle.segment.specs.Constants.{recordNumbers}
+use Rattle.state.specs.Flow.{Flow, Left, putAll, listed}
 use Rattle.state.specs.Rows.{noRoom}
 use Rattle.state.specs.Leaf.{leafSo0}
 use Rattle.demands.specs.Told.{climb}
@@ -55,3 +56,13 @@ abbrev pub Meets : {X : Type 0} → Verdict X → Verdict X → Type 0
 Meets v wrong = NotFine v
 Meets v (full p) = v ≡ full p
 Meets v (fine x) = v ≡ fine x
+
+-- What a list of leaves comes to in a leaf table that has so many records already: each record is written after the last one, and the
+-- first leaf beyond the room is where the table is full.
+pub record Listing : Type 0 where
+  pub leaves : ℕ
+  pub table : List ℕ
+
+unfoldable pub seat : List Leaf → ℕ → List ℕ → Verdict Listing
+seat [] n table = fine (record { leaves = n; table = table })
+seat (l ∷ ls) n table = pick (noRoom n table) (full (l .position)) (seat ls (suc n) (putAll table (recordNumbers * n) (rowOf l)))

@@ -7,3 +7,4 @@ pub mod Limits
 pub mod Kept
 pub mod Left
 pub mod Lowest
+pub mod Readings

@@ -1,7 +1,7 @@
 -- Laws of runs: what follows a reading, what is left and how far it came, a machine inside another.
 use Prim.Native.Nat.{ℕ, suc, _+_, _≤_, _<_}
 use mathlib.Core.Path.{_≡_, refl, ap, _∙_}
-use mathlib.Core.List.{List, [], _∷_}
+use mathlib.Core.List.{List, [], _∷_, _++_}
 use native.Mathlib.Omega.{arith}
 use lib.ListN.{length}
 use Rattle.machine.specs.Run.{Sub, go, done, bad, Res, okay, fail, cut, either, after, contBy, run, cont, lift}
@@ -138,3 +138,20 @@ module _ {S T R Q F L : Type 0} (left : F → L) (stepS : S → F → ℕ → �
   pub inside-run : (s : S) (f : F) (n : ℕ) (bs : List ℕ) → run left stepT (wrap s) f n bs ≡ after (run left stepS s f n bs) (λ q g m cs. cont left stepT m cs (out m q g))
   unfolding contBy
   inside-run s f n bs = inside-run-worse left stepS stepT wrap out (λ m. bad) fail (λ cs m x l. refl) steps bs s f n
+
+-- A result stays when more bytes follow: they are left with those that were left.
+module _ {S R F L : Type 0} (left : F → L) (step : S → F → ℕ → ℕ → Sub S R F L) (zs : List ℕ) where
+  more-cont : (bs : List ℕ) → ((s : S) (f : F) (n : ℕ) (q : R) (g : F) (m : ℕ) (cs : List ℕ) → run left step s f n bs ≡ okay q g m cs → run left step s f n (bs ++ zs) ≡ okay q g m (cs ++ zs)) →
+      (n : ℕ) (r : Sub S R F L) (q : R) (g : F) (m : ℕ) (cs : List ℕ) → cont left step n bs r ≡ okay q g m cs → cont left step n (bs ++ zs) r ≡ okay q g m (cs ++ zs)
+  unfolding contBy
+  more-cont bs h n (go s f) q g m cs e = h s f n q g m cs e
+  more-cont bs h n (done r f) q g m cs e = let a : r ≡ q = cc in let b : f ≡ g = cc in let c : n ≡ m = cc in let d : bs ≡ cs = cc in rw (a, b, c, d)
+  more-cont bs h n (bad x l) q g m cs e = let z : _≡_ {A = ℕ} 0 1 = cc in absurd (omega arith)
+
+  more-run : (bs : List ℕ) (s : S) (f : F) (n : ℕ) (q : R) (g : F) (m : ℕ) (cs : List ℕ) → run left step s f n bs ≡ okay q g m cs → run left step s f n (bs ++ zs) ≡ okay q g m (cs ++ zs)
+  unfolding run
+  more-run [] s f n q g m cs e = let z : _≡_ {A = ℕ} 0 1 = cc in absurd (omega arith)
+  more-run (b ∷ bs) s f n q g m cs e = more-cont bs (λ s' f' n' q' g' m' cs' e'. more-run bs s' f' n' q' g' m' cs' e') (suc n) (step s f n b) q g m cs e
+
+  pub okay-more : (n : ℕ) (bs : List ℕ) (r : Sub S R F L) (q : R) (g : F) (m : ℕ) (cs : List ℕ) → cont left step n bs r ≡ okay q g m cs → cont left step n (bs ++ zs) r ≡ okay q g m (cs ++ zs)
+  okay-more n bs r q g m cs e = more-cont bs (λ s f n' q' g' m' cs' e'. more-run bs s f n' q' g' m' cs' e') n r q g m cs e

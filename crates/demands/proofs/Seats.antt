@@ -1,0 +1,65 @@
+-- Leaves listed one after the other, whose decode times never fall, come to what their list comes to.
+use Prim.Native.Nat.{ℕ, zero, suc, _+_, _*_}
+use mathlib.Core.Path.{_≡_, refl, ap, sym, _∙_}
+use mathlib.Core.Logic.{_⊎_, inl, inr, ⊎-elim}
+use mathlib.Core.List.{List, [], _∷_, _++_, map}
+use mathlib.Core.Option.{Option, some, none}
+use mathlib.Core.Bool.{Bool, true, false, true≢false, false≢true}
+use lib.Dec.{ltb}
+use Rattle.basics.specs.Choose.{pick}
+use Rattle.basics.proofs.Options.{absurd-some}
+use Rattle.segment.specs.Leaves.{neverFall}
+use Rattle.segment.specs.Tree.{Leaf, Item, allTimes, leafOf}
+use Rattle.state.specs.declared.Seen.{Seen}
+use Rattle.state.specs.Flow.{Flow, listed}
+use Rattle.state.specs.Rows.{noRoom}
+use Rattle.state.specs.Traf.{saw}
+use Rattle.demands.specs.Told.{climb}
+use Rattle.demands.specs.Verdict.{Verdict, wrong, full, fine, told, seen0, rowOf, enlist, NotFine, Listing, seat}
+use Rattle.demands.proofs.Verdicts.{pick-not, told-not}
+
+-- times that never fall, first some and then others
+record Climbs (s : Seen) (ts us : List ℕ) : Type 0 where
+  top : Seen
+  climbed : climb s ts ≡ some top
+  rest : neverFall (top .last) us ≡ true
+
+climb-on : (s : Seen) (ts us : List ℕ) → neverFall (s .last) (ts ++ us) ≡ true → Climbs s ts us
+unfolding neverFall climb saw pick
+climb-on s [] us e = record { top = s; climbed = refl; rest = e }
+climb-on s (t ∷ ts) us e = at (ltb t (s .last)) refl e (λ r. climb-on (saw s true t) ts us r)
+  where
+    at : (b : Bool) → ltb t (s .last) ≡ b → pick b false (neverFall t (ts ++ us)) ≡ true → (neverFall t (ts ++ us) ≡ true → Climbs (saw s true t) ts us) → Climbs s (t ∷ ts) us
+    at true q r h = absurd (false≢true r)
+    at false q r h = let c = h r in record { top = c .top; climbed = rw q (c .climbed); rest = c .rest }
+
+-- times that fall, among the first or among the others
+climb-off : (s : Seen) (ts us : List ℕ) → neverFall (s .last) (ts ++ us) ≡ false → (s' : Seen) → climb s ts ≡ some s' → neverFall (s' .last) us ≡ false
+unfolding neverFall climb saw pick
+climb-off s [] us e s' c = let q : s ≡ s' = cc in rw (← q) e
+climb-off s (t ∷ ts) us e s' c = at (ltb t (s .last)) refl e c (λ r d. climb-off (saw s true t) ts us r s' d)
+  where
+    at : (b : Bool) → ltb t (s .last) ≡ b → pick b false (neverFall t (ts ++ us)) ≡ false → pick b none (climb (saw s true t) ts) ≡ some s' →
+        (neverFall t (ts ++ us) ≡ false → climb (saw s true t) ts ≡ some s' → neverFall (s' .last) us ≡ false) → neverFall (s' .last) us ≡ false
+    at true q r d h = absurd-some d
+    at false q r d h = h r d
+
+-- what a reading gives where all its leaves are listed
+abbrev pub listing : Flow → Verdict Listing
+listing f = fine (record { leaves = f .leaves; table = f .table })
+
+pub enlist-seat : (is : List Item) (f : Flow) → neverFall (f .last) (allTimes is) ≡ true → enlist is f listing ≡ seat (map leafOf is) (f .leaves) (f .table)
+unfolding enlist seat allTimes told listed
+enlist-seat [] f e = refl
+enlist-seat (i ∷ is) f e =
+    let c = climb-on (seen0 (f .last)) (i .times) (allTimes is) e in
+    ap (pick (noRoom (f .leaves) (f .table)) (full (i .leaf .position)))
+    (rw (c .climbed) (enlist-seat is (listed f (rowOf (i .leaf)) (i .leaf .start + i .leaf .duration) (c .top .last)) (c .rest)))
+
+pub enlist-falls : {X : Type 0} (is : List Item) (f : Flow) (k : Flow → Verdict X) → neverFall (f .last) (allTimes is) ≡ false → NotFine (enlist is f k)
+unfolding enlist allTimes neverFall listed
+enlist-falls [] f k e = absurd (true≢false e)
+enlist-falls (i ∷ is) f k e =
+    pick-not (noRoom (f .leaves) (f .table)) (full (i .leaf .position)) _ tt
+    (told-not (climb (seen0 (f .last)) (i .times)) _
+    (λ s c. enlist-falls is (listed f (rowOf (i .leaf)) (i .leaf .start + i .leaf .duration) (s .last)) k (climb-off (seen0 (f .last)) (i .times) (allTimes is) e s c)))

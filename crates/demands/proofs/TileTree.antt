@@ -1,0 +1,226 @@
+-- The entries of an index, read by structure, come to what the tree says of them.
+use Prim.Native.Nat.{ℕ, zero, suc, _+_, _-_, _*_, _≤_, _<_}
+use mathlib.Core.Path.{_≡_, refl, ap, sym, subst, _∙_}
+use mathlib.Core.Logic.{_≢_}
+use mathlib.Core.List.{List, [], _∷_, _++_, append-assoc}
+use mathlib.Core.Option.{Option, some, none}
+use mathlib.Core.Bool.{Bool, true, false, not, true≢false, _&&_, _||_}
+use native.Mathlib.Omega.{arith}
+use lib.Dec.{eqb, ltb, leb}
+use lib.ListN.{length, take, drop, take-append-drop, length-drop}
+use lib.Seq.{length-take-le}
+use borrow.Author.Tests.{eq-eqb, ne-eqb, le-ltb, lt-leb}
+use Rattle.basics.specs.Choose.{pick, andThen}
+use Rattle.basics.proofs.Picks.{pick-yes, pick-no}
+use Rattle.segment.specs.Constants.{workBytes, levelBytes, entryBytes, mostEntries}
+use Rattle.segment.specs.Boxes as tree
+use Rattle.segment.specs.Boxes.{sizes, durations}
+use Rattle.segment.specs.Leaves.{leafTimes}
+use Rattle.segment.specs.Tree as tree'
+use Rattle.segment.specs.Tree.{Item, itemOf, firstTime, entryItems, tile}
+use Rattle.machine.specs.Faults.{shows, refusal, unless}
+use Rattle.machine.specs.Run.{Res, okay, fail, cut, either, after}
+use Rattle.machine.specs.declared.Refusal.{Refusal}
+use Rattle.state.specs.declared.Seen.{Seen}
+use Rattle.state.specs.declared.Top.{Top}
+use Rattle.state.specs.declared.Level.{Level}
+use Rattle.state.specs.declared.Slot.{Slot}
+use Rattle.state.specs.Flow.{Flow, Left, left, withNow, listed}
+use Rattle.state.specs.Rows.{noRoom}
+use Rattle.state.specs.Levels.{Entry, entryAt, altered, entryFaults, slotOf, took}
+use Rattle.state.specs.Stages.{innerLevel, leafRow}
+use Rattle.descent.specs.Leaf.{leafD}
+use Rattle.descent.specs.Whole.{Under, innerD, slotD, readBackD, entryD, entriesD}
+use Rattle.demands.specs.Told.{upon, climb}
+use Rattle.demands.specs.Verdict.{Verdict, wrong, full, fine, judge, told, seen0, rowOf, enlist, NotFine, Meets}
+use Rattle.demands.proofs.Verdicts.{meets-same, meets-equal, meets-trans, judge-after, judge-cong, judge-not, judge-upon, told-then, told-cong, told-meets, enlist-meets, enlist-now, enlist-both}
+use Rattle.demands.proofs.Stored.{Alike, alike-trans, alike-refl, entryFrom, Holds, holds-alike, Sized}
+use Rattle.demands.proofs.LeafTree.{leaf-tree, leaf-first, leaf-full, leaf-ends, leaf-numbers}
+
+-- The same but for the work area.
+pub record Like (f g : Flow) : Type 0 where
+  pub leaves : f .leaves ≡ g .leaves
+  pub now : f .now ≡ g .now
+  pub last : f .last ≡ g .last
+  pub table : f .table ≡ g .table
+
+abbrev pub Goes : Type 0 → Type 0
+Goes X = Unit {0} → Flow → ℕ → List ℕ → Verdict X
+
+-- What follows in the reading meets what follows in the tree: at the time `t`, at byte n, before the bytes `ys`, whatever stands in the
+-- work area from the place `a` on; below it stands what stands in `w`.
+abbrev pub Follows : {X : Type 0} → ℕ → List ℕ → ℕ → Goes X → ℕ → List ℕ → (Flow → Verdict X) → Type 0
+Follows a w t h n ys K = (f g : Flow) → f .now ≡ t → Alike a w (f .work) → Like f g → Meets (h tt f n ys) (K g)
+
+-- How an index stands before its entries `es`: they are those left, and what they take of bytes and of time is all that is left.
+pub record Stands (l : Level) (es : List tree.Entry) (n now : ℕ) : Type 0 where
+  pub counted : l .next + length es ≡ l .count
+  pub few : l .count ≤ mostEntries
+  pub ends : l .end ≡ n + sizes es
+  pub lasts : l .until ≡ now + durations es
+  pub sized : Sized es
+
+-- an entry that was not altered shows no fault
+not-altered : (l : Level) (e : tree.Entry) (es : List tree.Entry) (n now : ℕ) → Stands l (e ∷ es) n now → altered l (entryFrom e) now n ≡ false
+unfolding altered sizes durations pick
+not-altered l e [] n now st =
+    let s : 0 < e .size = st .sized .0 in
+    rw (
+      ne-eqb (e .size) 0 (λ q. omega arith),
+      le-ltb (l .until) (now + e .duration) (omega (arith, st .lasts)),
+      eq-eqb (suc (l .next)) (l .count) (omega (arith, st .counted)),
+      eq-eqb (n + e .size) (l .end) (omega (arith, st .ends)),
+      eq-eqb (now + e .duration) (l .until) (omega (arith, st .lasts)),
+    )
+not-altered l e (d ∷ es) n now st =
+    let s : 0 < e .size = st .sized .0 in
+    let s' : 0 < d .size = st .sized .1 .0 in
+    rw (
+      ne-eqb (e .size) 0 (λ q. omega arith),
+      le-ltb (l .until) (now + e .duration) (omega (arith, st .lasts)),
+      ne-eqb (suc (l .next)) (l .count) (λ q. omega (arith, st .counted)),
+      lt-leb (l .end) (n + e .size) (omega (arith, st .ends)),
+    )
+
+-- the next entry stands as the last one did
+stands-next : (l : Level) (e : tree.Entry) (es : List tree.Entry) (n now : ℕ) → Stands l (e ∷ es) n now → Stands (took l) es (n + e .size) (now + e .duration)
+unfolding sizes durations
+stands-next l e es n now st =
+    record { counted = omega (arith, st .counted); few = st .few; ends = omega (arith, st .ends); lasts = omega (arith, st .lasts); sized = st .sized .1 }
+
+module _ (X : Type 0) (top : Top) (depth : ℕ) where
+  -- A leaf: its record is written where there is room.
+  module _ (e : tree.Entry) (f g : Flow) (n : ℕ) (xs ys : List ℕ) (h : Goes X) (K : Flow → Verdict X) (sized : e .size ≡ length xs) (some-bytes : 0 < length xs)
+      (lk : Like f g) (follows : Follows (levelBytes * depth) (f .work) (f .now + e .duration) h (n + e .size) ys K) where
+    abbrev slot : Slot
+    slot = slotOf (entryFrom e) (f .now) n
+
+    abbrev leaf-out : Seen → Flow → ℕ → List ℕ → Verdict X
+    leaf-out s f' m cs = h tt (listed f' (leafRow slot (f' .now) (s .first)) (slot .until) (s .last)) m cs
+
+    abbrev leaf-told : List ℕ → Verdict X
+    leaf-told ts = enlist (itemOf n (f .now) e ts ∷ []) g (λ g'. K (withNow g' (f .now + e .duration)))
+
+    listed-like : (ts : List ℕ) (s : Seen) → s .first ≡ firstTime ts →
+        Meets (leaf-out s f (slot .end) ys) (K (withNow (listed g (rowOf (itemOf n (f .now) e ts .leaf)) (f .now + e .duration) (s .last)) (f .now + e .duration)))
+    unfolding listed
+    listed-like ts s q =
+        let e1 : n + e .size - n ≡ e .size = omega arith in
+        let e2 : f .now + e .duration - f .now ≡ e .duration = omega arith in
+        follows (listed f (leafRow slot (f .now) (s .first)) (slot .until) (s .last)) (withNow (listed g (rowOf (itemOf n (f .now) e ts .leaf)) (f .now + e .duration) (s .last)) (f .now + e .duration)) refl (alike-refl _ _)
+        (record { leaves = ap (λ (k : ℕ). suc k) (lk .leaves); now = refl; last = refl; table = rw (e1, e2, q, lk .table, lk .leaves) })
+
+    same-room : (t : Bool) → noRoom (f .leaves) (f .table) ≡ t → noRoom (g .leaves) (g .table) ≡ t
+    same-room t r = rw (← lk .leaves, ← lk .table) r
+
+    -- a leaf that there is room for
+    room-told : (ts : List ℕ) → leafTimes (top .id) xs ≡ some ts → noRoom (f .leaves) (f .table) ≡ false → Meets (told (climb (seen0 (f .last)) ts) (λ s. leaf-out s f (slot .end) ys)) (leaf-told ts)
+    unfolding enlist told pick listed
+    room-told ts q r =
+        rw (same-room false r, ← lk .last) (told-meets (climb (seen0 (f .last)) ts) _ _ (λ s c. listed-like ts s (leaf-first (top .id) (f .last) xs ts s q c)))
+
+    with-room : noRoom (f .leaves) (f .table) ≡ false → Meets (judge (leafD (top .id) slot f n (xs ++ ys)) leaf-out) (told (leafTimes (top .id) xs) leaf-told)
+    unfolding told
+    with-room r =
+        rw (judge-upon (leafD (top .id) slot f n (xs ++ ys)) leaf-out (λ x l m e'. leaf-numbers (top .id) slot f n (xs ++ ys) x l m r e')
+        ∙ ap (λ (o : Option (Verdict X)). told o (λ v. v)) (leaf-tree (top .id) slot f n xs ys (λ q f' m cs. some (leaf-out q f' m cs)) (ap (λ (k : ℕ). n + k) sized) some-bytes r)
+        ∙ told-then (leafTimes (top .id) xs) _ (λ v. v)
+        ∙ told-cong (leafTimes (top .id) xs) _ (λ ts. told (climb (seen0 (f .last)) ts) (λ s. leaf-out s f (slot .end) ys)) (λ ts q. told-then (climb (seen0 (f .last)) ts) _ (λ v. v)))
+        (told-meets (leafTimes (top .id) xs) _ leaf-told (λ ts q. room-told ts q r))
+
+    -- a leaf beyond the room
+    no-room : noRoom (f .leaves) (f .table) ≡ true → Meets (judge (leafD (top .id) slot f n (xs ++ ys)) leaf-out) (told (leafTimes (top .id) xs) leaf-told)
+    unfolding told judge enlist pick
+    no-room r = at (leafTimes (top .id) xs) refl
+      where
+        at : (o : Option (List ℕ)) → leafTimes (top .id) xs ≡ o → Meets (judge (leafD (top .id) slot f n (xs ++ ys)) leaf-out) (told o leaf-told)
+        at none q =
+            judge-not (leafD (top .id) slot f n (xs ++ ys)) leaf-out
+            (λ s f' m cs e'. absurd (true≢false (sym r ∙ leaf-ends (top .id) slot f n (xs ++ ys) s f' m cs e' .2)))
+        at (some ts) q = rw (leaf-full (top .id) slot f n xs ys ts r refl (ap (λ (k : ℕ). n + k) sized) q .1, same-room true r) refl
+
+    leaf-meets : Meets (judge (leafD (top .id) slot f n (xs ++ ys)) leaf-out) (told (leafTimes (top .id) xs) leaf-told)
+    leaf-meets = at (noRoom (f .leaves) (f .table)) refl
+      where
+        at : (t : Bool) → noRoom (f .leaves) (f .table) ≡ t → Meets (judge (leafD (top .id) slot f n (xs ++ ys)) leaf-out) (told (leafTimes (top .id) xs) leaf-told)
+        at true r = no-room r
+        at false r = with-room r
+
+  module _ (inner : Under) (underT : tree'.Under) where
+    -- an inner index and all that it indexes
+    abbrev pub Deeper : Type 0
+    Deeper = (e : tree.Entry) (f g : Flow) (n : ℕ) (xs ys : List ℕ) (h : Goes X) (K : Flow → Verdict X) → e .size ≡ length xs → 0 < length xs → workBytes ≤ length (f .work) →
+        Like f g → Follows (levelBytes * depth) (f .work) (f .now + e .duration) h (n + e .size) ys K →
+        Meets (judge (after (innerD top (slotOf (entryFrom e) (f .now) n) depth f n (xs ++ ys)) (λ x f' m cs. inner (suc depth) (innerLevel x (slotOf (entryFrom e) (f .now) n)) f' m cs)) h)
+        (told (underT n (f .now) (e .duration) xs) (λ is. enlist is g (λ g'. K (withNow g' (f .now + e .duration)))))
+
+    module _ (deeper : Deeper) where
+      slot-meets : (e : tree.Entry) (f g : Flow) (n : ℕ) (xs ys : List ℕ) (h : Goes X) (K : Flow → Verdict X) → e .size ≡ length xs → 0 < length xs → workBytes ≤ length (f .work) →
+          Like f g → Follows (levelBytes * depth) (f .work) (f .now + e .duration) h (n + e .size) ys K →
+          Meets (judge (slotD inner top depth (not (eqb (e .kind) 0)) (slotOf (entryFrom e) (f .now) n) f n (xs ++ ys)) h)
+          (told (entryItems (top .id) underT n (f .now) e xs) (λ is. enlist is g (λ g'. K (withNow g' (f .now + e .duration)))))
+      unfolding slotD entryItems pick told judge
+      slot-meets e f g n xs ys h K sz some-bytes long lk fo = at (eqb (e .kind) 0)
+        where
+          at : (t : Bool) → Meets (judge (slotD inner top depth (not t) (slotOf (entryFrom e) (f .now) n) f n (xs ++ ys)) h)
+              (told (pick t (andThen (leafTimes (top .id) xs) (λ times. some (itemOf n (f .now) e times ∷ []))) (underT n (f .now) (e .duration) xs)) (λ is. enlist is g (λ g'. K (withNow g' (f .now + e .duration)))))
+          at true =
+              rw (judge-after (leafD (top .id) (slotOf (entryFrom e) (f .now) n) f n (xs ++ ys)) _ h, told-then (leafTimes (top .id) xs) (λ times. some (itemOf n (f .now) e times ∷ [])) (λ is. enlist is g (λ g'. K (withNow g' (f .now + e .duration)))))
+              (leaf-meets e f g n xs ys h K sz some-bytes lk fo)
+          at false = deeper e f g n xs ys h K sz some-bytes long lk fo
+
+      -- where the level keeps its next entry
+      abbrev place : Level → ℕ
+      place l = levelBytes * (depth - 1) + entryBytes * l .next
+
+      entry-meets : (l : Level) (e : tree.Entry) (es : List tree.Entry) (f g : Flow) (n : ℕ) (xs ys : List ℕ) (h : Goes X) (K : Flow → Verdict X) → Stands l (e ∷ es) n (f .now) → entryAt (f .work) (place l) ≡ entryFrom e →
+          e .size ≡ length xs → workBytes ≤ length (f .work) → Like f g → Follows (levelBytes * depth) (f .work) (f .now + e .duration) h (n + e .size) ys K →
+          Meets (judge (entryD inner top depth l f n (xs ++ ys)) h) (told (entryItems (top .id) underT n (f .now) e xs) (λ is. enlist is g (λ g'. K (withNow g' (f .now + e .duration)))))
+      unfolding entryD readBackD unless shows
+      entry-meets l e es f g n [] ys h K st he sz long lk fo = absurd (omega (arith, st .sized .0))
+      entry-meets l e es f g n (x ∷ xs) ys h K st he sz long lk fo =
+          rw (he, not-altered l e es n (f .now) st) (slot-meets e f g n (x ∷ xs) ys h K sz (omega arith) long lk fo)
+
+      pub tile-meets : (es : List tree.Entry) (l : Level) (f g : Flow) (n : ℕ) (xs ys : List ℕ) (h : Goes X) (K : Flow → Verdict X) → 1 ≤ depth → Stands l es n (f .now) → Holds (f .work) (place l) es → sizes es ≡ length xs →
+          workBytes ≤ length (f .work) → Like f g → Follows (levelBytes * depth) (f .work) (f .now + durations es) h (n + length xs) ys K →
+          Meets (judge (entriesD inner top depth (length es) l f n (xs ++ ys)) h) (told (tile (top .id) underT n (f .now) es xs) (λ is. enlist is g (λ g'. K (withNow g' (f .now + durations es)))))
+      unfolding entriesD tile sizes durations told enlist judge
+      tile-meets [] l f g n [] ys h K one st ho sz long lk fo =
+          let q : n + 0 ≡ n = omega arith in
+          rw q at (fo f (withNow g (f .now + 0)) (omega arith) (alike-refl _ _) (record { leaves = lk .leaves; now = omega arith; last = lk .last; table = lk .table }))
+      tile-meets [] l f g n (x ∷ xs) ys h K one st ho sz long lk fo = absurd (omega arith)
+      tile-meets (e ∷ es) l f g n xs ys h K one st ho sz long lk fo =
+          let B = take (e .size) xs in
+          let R = drop (e .size) xs in
+          let lb : length B ≡ e .size = length-take-le (e .size) xs (omega arith) in
+          let lr : length R ≡ length xs - e .size = length-drop (e .size) xs in
+          let T : ℕ = f .now + (e .duration + durations es) in
+          let rest : Option (List Item) = tile (top .id) underT (n + e .size) (f .now + e .duration) es R in
+          let h' : Goes X = λ u f' m cs. judge (entriesD inner top depth (length es) (took l) f' m cs) h in
+          let K' : Flow → Verdict X = λ g'. told rest (λ js. enlist js g' (λ g''. K (withNow g'' T))) in
+          let cutAt : xs ++ ys ≡ B ++ (R ++ ys) = ap (λ (z : List ℕ). z ++ ys) (sym (take-append-drop (e .size) xs)) ∙ append-assoc B R ys in
+          let next : place l + entryBytes ≡ place (took l) = omega arith in
+          let room : place (took l) + entryBytes * length es ≤ levelBytes * depth = omega (arith, st .counted, st .few) in
+          let follows : Follows (levelBytes * depth) (f .work) (f .now + e .duration) h' (n + e .size) (R ++ ys) K' =
+          λ f1 g1 t1 al lk1.
+          let q : f1 .now + durations es ≡ T = omega arith in
+          let m : n + e .size + length R ≡ n + length xs = omega arith in
+          let go-on : Meets (judge (entriesD inner top depth (length es) (took l) f1 (n + e .size) (R ++ ys)) h) (told (tile (top .id) underT (n + e .size) (f1 .now) es R) (λ is. enlist is g1 (λ g'. K (withNow g' (f1 .now + durations es))))) =
+          tile-meets es (took l) f1 g1 (n + e .size) R ys h K one (rw t1 (stands-next l e es n (f .now) st)) (holds-alike es (place (took l)) al room (rw next at (ho .1))) (omega arith) (omega (arith, al .long)) lk1
+          (λ f2 g2 t2 al2 lk2. rw m (fo f2 g2 (omega arith) (alike-trans al al2) lk2)) in
+          subst (λ (t : ℕ). Meets (judge (entriesD inner top depth (length es) (took l) f1 (n + e .size) (R ++ ys)) h) (told (tile (top .id) underT (n + e .size) t es R) (λ is. enlist is g1 (λ g'. K (withNow g' T))))) t1 (rw q at go-on) in
+          let items : Option (List Item) = entryItems (top .id) underT n (f .now) e B in
+          let read : Verdict X = judge (entryD inner top depth l f n (B ++ (R ++ ys))) h' in
+          let near : List Item → Verdict X = λ is. enlist is g (λ g'. K' (withNow g' (f .now + e .duration))) in
+          let apart : List Item → Verdict X = λ is. enlist is g (λ g'. told rest (λ js. enlist js g' (λ g''. K (withNow g'' T)))) in
+          let both : Verdict X = told (andThen items (λ is. andThen rest (λ js. some (is ++ js)))) (λ ks. enlist ks g (λ g'. K (withNow g' T))) in
+          let one-entry : Meets read (told items near) = entry-meets l e es f g n B (R ++ ys) h' K' st (ho .0) (sym lb) long lk follows in
+          let same-time : Meets (told items near) (told items apart) =
+          told-meets items near apart
+          (λ is q. enlist-meets is g (λ g'. K' (withNow g' (f .now + e .duration))) (λ g'. told rest (λ js. enlist js g' (λ g''. K (withNow g'' T))))
+          (λ g' w. meets-equal (K' (withNow g' (f .now + e .duration))) (told rest (λ js. enlist js g' (λ g''. K (withNow g'' T))))
+          (told-cong rest (λ js. enlist js (withNow g' (f .now + e .duration)) (λ g''. K (withNow g'' T))) (λ js. enlist js g' (λ g''. K (withNow g'' T))) (λ js r. enlist-now js g' (f .now + e .duration) T K)))) in
+          let joined : Meets (told items apart) both = enlist-both items rest g (λ g'. K (withNow g' T)) in
+          rw (ap (λ (z : List ℕ). judge (after (entryD inner top depth l f n z) (λ u g' m cs. entriesD inner top depth (length es) (took l) g' m cs)) h) cutAt
+          ∙ judge-after (entryD inner top depth l f n (B ++ (R ++ ys))) _ h)
+          (meets-trans read (told items near) both one-entry (meets-trans (told items near) (told items apart) both same-time joined))
