@@ -8,8 +8,8 @@ use mathlib.Core.Option.{Option, some, none}
 use mathlib.Core.Bool.{Bool, true, false, not, true≢false, false≢true, _&&_, _||_}
 use native.Mathlib.Omega.{arith}
 use lib.Dec.{eqb, ltb, leb}
-use lib.ListN.{length, take, drop, replicate, take-append-drop, length-drop, length-append, length-replicate}
-use lib.Seq.{length-take-le}
+use lib.ListN.{length, take, drop, replicate, take-append-drop, length-drop, length-append, length-replicate, drop-of-length-le}
+use lib.Seq.{length-take-le, take-all}
 use borrow.Author.Tests.{eq-eqb, ne-eqb, lt-ltb, le-ltb, ltb-true, ltb-false, leb-true, leb-false, le-leb, lt-leb}
 use Rattle.basics.specs.Choose.{pick, andThen}
 use Rattle.basics.proofs.Picks.{lt-or-ge, pick-yes, pick-no}
@@ -39,7 +39,7 @@ use Rattle.state.specs.Calls.{Out}
 use Rattle.descent.specs.Opening.{openingD}
 use Rattle.descent.specs.Whole.{gapD, entriesD, underD, materialD, segmentD, outcome, readD, wholeD}
 use Rattle.demands.specs.Told.{upon, clean, indexFrom, entryPart, withEntries}
-use Rattle.demands.specs.Verdict.{Verdict, wrong, full, fine, judge, told, enlist, NotFine, Meets, Listing, seat}
+use Rattle.demands.specs.Verdict.{Verdict, wrong, full, fine, judge, told, enlist, NotFine, Meets, Listing, seat, verdictBy, verdictOf}
 use Rattle.demands.proofs.Verdicts.{meets-same, meets-equal, meets-trans, judge-after, judge-cong, judge-not, judge-upon, told-then, told-cong, told-meets, told-not, enlist-not, pick-not}
 use Rattle.demands.proofs.SegmentRun.{S, gap-consumed, top-run}
 use Rattle.demands.proofs.Stored.{Alike, alike-refl, put-length, holds}
@@ -339,3 +339,53 @@ module _ (brand : ℕ) (xs work table : List ℕ) (small : length xs ≤ limit) 
 
   pub read-meets : Meets (judge (segmentD brand f0 0 xs) final) (told (segment brand xs) (seated table))
   read-meets = rw (read-is, say-is) (told-meets (topIndex brand xs) read-top say-top top-meets)
+
+-- a byte after the material is refused with 21, or with 3
+past-end : (n : ℕ) (table : List ℕ) (t : Bool) → verdictBy (finishes.Refused (lowest (pastMaterial n) (shows t 3 limit))) table ≡ wrong
+unfolding verdictBy shows lowest pick
+past-end n table true = refl
+past-end n table false = refl
+
+-- The whole list.
+judged : (r : Res Top Flow Left) → verdictOf (outcome r) ≡ judge r final
+unfolding verdictBy outcome judge final pick shows lowest
+judged (okay top f n []) = refl
+judged (okay top f n (b ∷ bs)) = past-end n (f .table) (eqb n limit)
+judged (fail x l n) = refl
+judged (cut l n) = refl
+
+-- bytes past the limit are never accepted
+beyond-not : (x : Refusal) (r : Res Top Flow Left) (y : ℕ) (ys : List ℕ) → NotFine (judge (beyond x r (y ∷ ys)) final)
+unfolding beyond judge final
+beyond-not x (okay top f n bs) y ys = at bs
+  where
+    at : (cs : List ℕ) → NotFine (final top f n (cs ++ (y ∷ ys)))
+    at [] = tt
+    at (c ∷ cs) = tt
+beyond-not x (fail z l n) y ys = pick-not (eqb (z .number) 15) (full (z .place)) wrong tt tt
+beyond-not x (cut l n) y ys = pick-not (eqb (x .number) 15) (full (x .place)) wrong tt tt
+
+-- and are no segment
+segment-long : (brand : ℕ) (bytes : List ℕ) → limit < length bytes → segment brand bytes ≡ none
+unfolding segment
+segment-long brand bytes over = pick-yes (ltb limit (length bytes)) none _ (lt-ltb limit (length bytes) over)
+
+-- Law T.
+pub law-t : (brand : ℕ) (bytes work table : List ℕ) → workBytes ≤ length work → Meets (verdictOf (wholeD brand bytes work table)) (told (segment brand bytes) (λ ls. seat ls 0 table))
+unfolding wholeD told
+law-t brand bytes work table long =
+    rw (pick-no (ltb (length work) workBytes) _ (outcome (readD brand bytes work table)) (le-ltb (length work) workBytes long), judged (readD brand bytes work table))
+    (⊎-elim (λ (over : limit < length bytes). too-long over) (λ (small : length bytes ≤ limit). within small) (lt-or-ge limit (length bytes)))
+  where
+    read-long : (ys : List ℕ) → 0 < length ys → NotFine (judge (beyond (refusal 3 limit) (segmentD brand (flow0 work table) 0 (take limit bytes)) ys) final)
+    read-long [] l = absurd (omega arith)
+    read-long (y ∷ ys) l = beyond-not (refusal 3 limit) (segmentD brand (flow0 work table) 0 (take limit bytes)) y ys
+
+    too-long : limit < length bytes → Meets (judge (readD brand bytes work table) final) (told (segment brand bytes) (λ ls. seat ls 0 table))
+    too-long over = rw (segment-long brand bytes over) (read-long (drop limit bytes) (omega (arith, length-drop limit bytes)))
+
+    within : length bytes ≤ limit → Meets (judge (readD brand bytes work table) final) (told (segment brand bytes) (λ ls. seat ls 0 table))
+    within small =
+        let d : drop limit bytes ≡ [] = drop-of-length-le bytes {i = limit} small in
+        let t : take limit bytes ≡ bytes = take-all limit bytes small in
+        rw (d, t, beyond-none (refusal 3 limit) (segmentD brand (flow0 work table) 0 bytes)) (read-meets brand bytes work table small long)

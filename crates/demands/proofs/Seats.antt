@@ -15,7 +15,8 @@ use Rattle.state.specs.Flow.{Flow, listed}
 use Rattle.state.specs.Rows.{noRoom}
 use Rattle.state.specs.Traf.{saw}
 use Rattle.demands.specs.Told.{climb}
-use Rattle.demands.specs.Verdict.{Verdict, wrong, full, fine, told, seen0, rowOf, enlist, NotFine, Listing, seat}
+use Rattle.lookup.specs.Rows.{rowOf}
+use Rattle.demands.specs.Verdict.{Verdict, wrong, full, fine, told, seen0, enlist, NotFine, Listing, seat}
 use Rattle.demands.proofs.Verdicts.{pick-not, told-not}
 
 -- times that never fall, first some and then others

@@ -32,7 +32,8 @@ use Rattle.state.specs.Stages.{innerLevel, leafRow}
 use Rattle.descent.specs.Leaf.{leafD}
 use Rattle.descent.specs.Whole.{Under, innerD, slotD, readBackD, entryD, entriesD}
 use Rattle.demands.specs.Told.{upon, climb}
-use Rattle.demands.specs.Verdict.{Verdict, wrong, full, fine, judge, told, seen0, rowOf, enlist, NotFine, Meets}
+use Rattle.lookup.specs.Rows.{rowOf}
+use Rattle.demands.specs.Verdict.{Verdict, wrong, full, fine, judge, told, seen0, enlist, NotFine, Meets}
 use Rattle.demands.proofs.Verdicts.{meets-same, meets-equal, meets-trans, judge-after, judge-cong, judge-not, judge-upon, told-then, told-cong, told-meets, enlist-meets, enlist-now, enlist-both}
 use Rattle.demands.proofs.Stored.{Alike, alike-trans, alike-refl, entryFrom, Holds, holds-alike, Sized}
 use Rattle.demands.proofs.LeafTree.{leaf-tree, leaf-first, leaf-full, leaf-ends, leaf-numbers}

@@ -16,7 +16,8 @@ use Rattle.machine.specs.declared.Refusal.{Refusal}
 use Rattle.state.specs.Flow.{Flow, Left, withNow, listed}
 use Rattle.state.specs.Rows.{noRoom}
 use Rattle.demands.specs.Told.{upon, climb}
-use Rattle.demands.specs.Verdict.{Verdict, wrong, full, fine, judge, told, seen0, rowOf, enlist, NotFine, Meets}
+use Rattle.lookup.specs.Rows.{rowOf}
+use Rattle.demands.specs.Verdict.{Verdict, wrong, full, fine, judge, told, seen0, enlist, NotFine, Meets}
 
 pub meets-same : {X : Type 0} (v : Verdict X) → Meets v v
 meets-same wrong = tt

@@ -8,11 +8,15 @@ use lib.Dec.{eqb}
 use Rattle.basics.specs.Choose.{pick}
 use Rattle.segment.specs.Tree.{Leaf, Item}
 use Rattle.machine.specs.Run.{Res, okay, fail, cut}
+use Rattle.state.specs.declared.FinishAnswer.{FinishAnswer}
+use Rattle.state.specs.declared.FinishAnswer.the-variants as finishes
+use Rattle.state.specs.Calls.{Out}
 use Rattle.state.specs.declared.Seen.{Seen}
 use Rattle.segment.specs.Constants.{recordNumbers}
 use Rattle.state.specs.Flow.{Flow, Left, putAll, listed}
 use Rattle.state.specs.Rows.{noRoom}
 use Rattle.state.specs.Leaf.{leafSo0}
+use Rattle.lookup.specs.Rows.{rowOf}
 use Rattle.demands.specs.Told.{climb}
 
 pub data Verdict (X : Type 0) : Type 0 where
@@ -34,10 +38,6 @@ told (some a) k = k a
 -- the decode times of a leaf, after the last one before it
 abbrev pub seen0 : ℕ → Seen
 seen0 last = leafSo0 last .seen
-
--- the six numbers of a leaf
-abbrev pub rowOf : Leaf → List ℕ
-rowOf l = l .position ∷ l .size ∷ l .start ∷ l .duration ∷ l .sap ∷ l .time ∷ []
 
 -- the tree's leaves listed one after the other: each needs room, and decode times that do not fall
 unfoldable pub enlist : {X : Type 0} → List Item → Flow → (Flow → Verdict X) → Verdict X
@@ -66,3 +66,11 @@ pub record Listing : Type 0 where
 unfoldable pub seat : List Leaf → ℕ → List ℕ → Verdict Listing
 seat [] n table = fine (record { leaves = n; table = table })
 seat (l ∷ ls) n table = pick (noRoom n table) (full (l .position)) (seat ls (suc n) (putAll table (recordNumbers * n) (rowOf l)))
+
+-- what the whole reading comes to: its list, or 15 at a place, or another refusal
+unfoldable pub verdictBy : FinishAnswer → List ℕ → Verdict Listing
+verdictBy (finishes.Listed n) table = fine (record { leaves = n; table = table })
+verdictBy (finishes.Refused x) table = pick (eqb (x .number) 15) (full (x .place)) wrong
+
+abbrev pub verdictOf : Out FinishAnswer → Verdict Listing
+verdictOf o = verdictBy (o .answer) (o .table)
