@@ -20,3 +20,5 @@ pub mod OpeningTree
 pub mod OpeningNumbers
 pub mod Seats
 pub mod LawT
+pub mod Exact
+pub mod CutAnywhere

@@ -1,3 +1,4 @@
 pub mod Told
 pub mod Walks
 pub mod Verdict
+pub mod Demands

@@ -1,0 +1,212 @@
+-- Demand 2: with room enough the reader accepts exactly the segments that the tree has, lists exactly their leaves, and answers a time with
+-- the leaf that covers it; a time is refused exactly when no leaf covers it.
+use Prim.Native.Nat.{ℕ, zero, suc, _+_, _*_, _/_, _≤_, _<_}
+use mathlib.Core.Path.{_≡_, refl, ap, sym, _∙_}
+use mathlib.Core.Logic.{_↔_, _≢_, _⊎_, inl, inr, ⊎-elim}
+use mathlib.Core.List.{List, [], _∷_, _++_}
+use mathlib.Core.Option.{Option, some, none}
+use mathlib.Core.Bool.{Bool, true, false}
+use native.Mathlib.Omega.{arith}
+use lib.Dec.{eqb, ltb}
+use lib.ListN.{length, take, drop, length-append}
+use borrow.Author.Tests.{eqb-true, ltb-true, lt-ltb, le-ltb}
+use Rattle.basics.specs.Choose.{pick}
+use Rattle.basics.specs.Bytes.{AllBytes}
+use Rattle.basics.proofs.Picks.{lt-or-ge, pick-yes, pick-no, pick-holds}
+use Rattle.basics.proofs.Options.{absurd-some}
+use Rattle.segment.specs.Constants.{workBytes, recordNumbers, mostRecords}
+use Rattle.segment.specs.Boxes.{durations}
+use Rattle.segment.specs.Tree.{Leaf, Opened, covers, topIndex, segment}
+use Rattle.segment.specs.Parts.{At, One}
+use Rattle.machine.specs.Faults.{refusal}
+use Rattle.machine.specs.Run.{Res, okay, fail, cut}
+use Rattle.machine.specs.declared.Refusal.{Refusal}
+use Rattle.state.specs.declared.Top.{Top}
+use Rattle.state.specs.declared.State.{State}
+use Rattle.state.specs.declared.State.the-variants as state
+use Rattle.state.specs.declared.FeedAnswer.{FeedAnswer}
+use Rattle.state.specs.declared.FeedAnswer.the-variants as feeds
+use Rattle.state.specs.declared.FinishAnswer.{FinishAnswer}
+use Rattle.state.specs.declared.FinishAnswer.the-variants as finishes
+use Rattle.state.specs.Flow.{Flow, Left, room, putAll}
+use Rattle.state.specs.Ranges.{inRange, InRange}
+use Rattle.state.specs.Calls.{Out, startOf, feedOf, finishOf, finishAfter, wholeOf}
+use Rattle.state.proofs.RangeTests.{in-range}
+use Rattle.state.proofs.Ranges.{start-in-range, feed-in-range, finish-in-range}
+use Rattle.descent.specs.Whole.{outcome, readD, wholeD}
+use Rattle.lookup.specs.declared.LookupAnswer.{LookupAnswer}
+use Rattle.lookup.specs.declared.LookupAnswer.the-variants as answer
+use Rattle.lookup.specs.Rows.{recordOf, rowsOf}
+use Rattle.lookup.specs.Lookup.{lookIn, lookupOf}
+use Rattle.lookup.proofs.Listed.{NoLeafCovers, lookup-refuses}
+use Rattle.lookup.proofs.TheLeaf.{segment-found, segment-before, segment-past, rows-length, lookup-listed}
+use Rattle.demands.specs.Verdict.{Verdict, wrong, full, fine, told, NotFine, Meets, Listing, seat, verdictBy, verdictOf}
+use Rattle.demands.specs.Demands.{Accepts}
+use Rattle.demands.proofs.Stored.{put-between}
+use Rattle.demands.proofs.Seats.{seat-fits, seat-full}
+use Rattle.demands.proofs.LawD.{law-d}
+use Rattle.demands.proofs.LawT.{law-t}
+
+-- What a verdict says of the answer and the table.
+not-fine : {A : Type 0} (t : Bool) (p : ℕ) (l : Listing) → pick t (full p) wrong ≡ fine l → A
+unfolding pick
+not-fine true p l e = let z : _≡_ {A = ℕ} 0 1 = cc in absurd (omega arith)
+not-fine false p l e = let z : _≡_ {A = ℕ} 0 1 = cc in absurd (omega arith)
+
+verdict-fine : (a : FinishAnswer) (t : List ℕ) (l : Listing) → verdictBy a t ≡ fine l → (a ≡ finishes.Listed (l .leaves)) × (t ≡ l .table)
+unfolding verdictBy
+verdict-fine (finishes.Listed n) t l e =
+    let q : _≡_ {A = Listing} (record { leaves = n; table = t }) l = cc in
+    (ap (λ (z : Listing). finishes.Listed (z .leaves)) q, ap (λ (z : Listing). z .table) q)
+verdict-fine (finishes.Refused x) t l e = not-fine (eqb (x .number) 15) (x .place) l e
+
+is-full : (x : Refusal) (p : ℕ) (t : Bool) → eqb (x .number) 15 ≡ t → pick {A = Verdict Listing} t (full (x .place)) wrong ≡ full p → x ≡ refusal 15 p
+unfolding pick
+is-full x p true q e = let a : x .number ≡ 15 = eqb-true (x .number) 15 q in let b : x .place ≡ p = cc in rw (← b, ← a)
+is-full x p false q e = let z : _≡_ {A = ℕ} 0 1 = cc in absurd (omega arith)
+
+verdict-full : (a : FinishAnswer) (t : List ℕ) (p : ℕ) → verdictBy a t ≡ full p → a ≡ finishes.Refused (refusal 15 p)
+unfolding verdictBy
+verdict-full (finishes.Listed n) t p e = let z : _≡_ {A = ℕ} 0 1 = cc in absurd (omega arith)
+verdict-full (finishes.Refused x) t p e = ap (λ (y : Refusal). finishes.Refused y) (is-full x p (eqb (x .number) 15) refl e)
+
+-- an accepted answer comes with an accepted state that counts the same leaves
+listed-state : (r : Res Top Flow Left) (k : ℕ) → outcome r .answer ≡ finishes.Listed k → (n : ℕ) × (top : Top) × (outcome r .state ≡ state.Accepted n k top)
+unfolding outcome
+listed-state (okay top f n []) k e = let q : f .leaves ≡ k = cc in (n, top, ap (λ (z : ℕ). state.Accepted n z top) q)
+listed-state (okay top f n (b ∷ bs)) k e = let z : _≡_ {A = ℕ} 0 1 = cc in absurd (omega arith)
+listed-state (fail x l n) k e = let z : _≡_ {A = ℕ} 0 1 = cc in absurd (omega arith)
+listed-state (cut l n) k e = let z : _≡_ {A = ℕ} 0 1 = cc in absurd (omega arith)
+
+-- as many records as the room fit the table
+room-fits : (table : List ℕ) → recordNumbers * room table ≤ length table
+unfolding room
+room-fits table =
+    pick-holds (λ (n : ℕ). recordNumbers * n ≤ length table) (ltb mostRecords (length table / recordNumbers)) mostRecords (length table / recordNumbers)
+    (λ e. let h = ltb-true mostRecords (length table / recordNumbers) e in omega arith) (λ e. omega arith)
+
+-- below its length a list has something
+at-some : {A : Type 0} (ls : List A) (i : ℕ) → i < length ls → (a : A) × At ls i a
+at-some [] i h = absurd (omega arith)
+at-some (a ∷ ls) zero h = (a, refl)
+at-some (a ∷ ls) (suc i) h = at-some ls i (omega arith)
+
+listed-refused : {A : Type 0} (a : FinishAnswer) (k : ℕ) (x : Refusal) → a ≡ finishes.Listed k → a ≡ finishes.Refused x → A
+listed-refused a k x p q = let z : _≡_ {A = ℕ} 0 1 = cc in absurd (omega arith)
+
+meets-fine : (v w : Verdict Listing) (l : Listing) → Meets v w → w ≡ fine l → v ≡ fine l
+meets-fine v w l m e = rw e at m
+
+meets-full : (v w : Verdict Listing) (p : ℕ) → Meets v w → w ≡ full p → v ≡ full p
+meets-full v w p m e = rw e at m
+
+module _ (brand : ℕ) (bytes work table : List ℕ) (all : AllBytes bytes) (long : workBytes ≤ length work) where
+  abbrev o : Out FinishAnswer
+  o = wholeOf brand bytes work table
+
+  -- start, feed and finish come to what the tree says
+  whole-meets : Meets (verdictOf o) (told (segment brand bytes) (λ ls. seat ls 0 table))
+  whole-meets = rw (← law-d brand bytes work table all) (law-t brand bytes work table long)
+
+  whole-state : (k : ℕ) → o .answer ≡ finishes.Listed k → (n : ℕ) × (top : Top) × (o .state ≡ state.Accepted n k top)
+  unfolding wholeD
+  whole-state k e =
+      let same : o ≡ outcome (readD brand bytes work table) = sym (law-d brand bytes work table all) ∙ pick-no (ltb (length work) workBytes) _ _ (le-ltb (length work) workBytes long) in
+      let (n, top, q) = listed-state (readD brand bytes work table) k (sym (ap (λ (z : Out FinishAnswer). z .answer) same) ∙ e) in
+      (n, top, ap (λ (z : Out FinishAnswer). z .state) same ∙ q)
+
+  -- the rows of leaves at the front of the table
+  rows-front : (ls : List Leaf) → length ls ≤ room table → putAll table (recordNumbers * 0) (rowsOf ls) ≡ rowsOf ls ++ drop (recordNumbers * length ls) table
+  rows-front ls fits =
+      let rows : length (rowsOf ls) ≡ recordNumbers * length ls = rows-length ls in
+      let q : 0 + length (rowsOf ls) ≡ recordNumbers * length ls = omega arith in
+      put-between table 0 (rowsOf ls) (omega (arith, room-fits table)) ∙ ap (λ (k : ℕ). rowsOf ls ++ drop k table) q
+
+  seated : (ls : List Leaf) → segment brand bytes ≡ some ls → Meets (verdictOf o) (seat ls 0 table)
+  unfolding told
+  seated ls e = rw e at whole-meets
+
+  -- A segment of the tree whose leaves the table has room for is accepted with them.
+  pub accepts : (ls : List Leaf) → segment brand bytes ≡ some ls → length ls ≤ room table → Accepts o table ls
+  accepts ls e fits =
+      let l : Listing = record { leaves = 0 + length ls; table = putAll table (recordNumbers * 0) (rowsOf ls) } in
+      let v = verdict-fine (o .answer) (o .table) l (meets-fine (verdictOf o) (seat ls 0 table) l (seated ls e) (seat-fits ls 0 table (omega arith))) in
+      let q : 0 + length ls ≡ length ls = omega arith in
+      let a : o .answer ≡ finishes.Listed (length ls) = v .0 ∙ ap (λ (k : ℕ). finishes.Listed k) q in
+      let (n, top, st) = whole-state (length ls) a in
+      record { answers = a; count = n; top = top; states = st; lists = v .1 ∙ rows-front ls fits }
+
+  -- A segment of the tree with more leaves is refused with 15 at the first leaf beyond the room.
+  pub refuses-full : (ls : List Leaf) (l : Leaf) → segment brand bytes ≡ some ls → At ls (room table) l → o .answer ≡ finishes.Refused (refusal 15 (l .position))
+  refuses-full ls l e at =
+      verdict-full (o .answer) (o .table) (l .position) (meets-full (verdictOf o) (seat ls 0 table) (l .position) (seated ls e) (seat-full ls 0 table (room table) l (omega arith) at))
+
+  -- What is accepted is a segment of the tree whose leaves the table has room for, with those leaves.
+  pub accepted : (k : ℕ) → o .answer ≡ finishes.Listed k → (ls : List Leaf) × (segment brand bytes ≡ some ls) × (length ls ≤ room table) × Accepts o table ls
+  unfolding told verdictBy
+  accepted k e = by (segment brand bytes) refl
+    where
+      fine-here : verdictOf o ≡ fine (record { leaves = k; table = o .table })
+      fine-here = ap (λ (a : FinishAnswer). verdictBy a (o .table)) e
+
+      beyond : (ls : List Leaf) → segment brand bytes ≡ some ls → room table < length ls → (ls : List Leaf) × (segment brand bytes ≡ some ls) × (length ls ≤ room table) × Accepts o table ls
+      beyond ls q more = let (l, at) = at-some ls (room table) more in listed-refused (o .answer) k (refusal 15 (l .position)) e (refuses-full ls l q at)
+
+      by : (s : Option (List Leaf)) → segment brand bytes ≡ s → (ls : List Leaf) × (segment brand bytes ≡ some ls) × (length ls ≤ room table) × Accepts o table ls
+      by none q = absurd (rw fine-here at (rw q at whole-meets))
+      by (some ls) q = ⊎-elim (λ (more : room table < length ls). beyond ls q more) (λ (fits : length ls ≤ room table). (ls, q, fits, accepts ls q fits)) (lt-or-ge (room table) (length ls))
+
+  -- A refusal with another number than 15 says that the tree does not accept.
+  pub refused-wrong : (x : Refusal) → o .answer ≡ finishes.Refused x → x .number ≢ 15 → segment brand bytes ≡ none
+  refused-wrong x e other = by (segment brand bytes) refl
+    where
+      by : (s : Option (List Leaf)) → segment brand bytes ≡ s → s ≡ none
+      by none q = refl
+      by (some ls) q =
+          ⊎-elim
+          (λ (more : room table < length ls).
+          let (l, at) = at-some ls (room table) more in
+          let r : o .answer ≡ finishes.Refused (refusal 15 (l .position)) = refuses-full ls l q at in
+          let same : x ≡ refusal 15 (l .position) = cc in
+          absurd (other (ap (λ (y : Refusal). y .number) same)))
+          (λ (fits : length ls ≤ room table). listed-refused (o .answer) (length ls) x (accepts ls q fits .answers) e)
+          (lt-or-ge (room table) (length ls))
+
+  -- "With room enough the reader accepts exactly the segments that document 01 allows."
+  pub accepts-exactly : ((k : ℕ) × (o .answer ≡ finishes.Listed k)) ↔ ((ls : List Leaf) × (segment brand bytes ≡ some ls) × (length ls ≤ room table))
+  accepts-exactly = (
+    (λ p. let (ls, e, fits, a) = accepted (p .0) (p .1) in (ls, e, fits)),
+    (λ q. let (ls, e, fits) = q in (length ls, accepts ls e fits .answers)),
+  )
+
+  -- The state left is inside the ranges.
+  whole-in-range : InRange (o .state)
+  unfolding finishAfter
+  whole-in-range = by (feedOf (startOf brand) bytes work table) (feed-in-range (startOf brand) bytes work table all (start-in-range brand)) (feedOf (startOf brand) bytes work table .answer)
+    where
+      by : (p : Out FeedAnswer) → InRange (p .state) → (a : FeedAnswer) → InRange (finishAfter p a .state)
+      by p r (feeds.Read n) = finish-in-range (p .state) r
+      by p r (feeds.Refused x) = r
+
+  -- Times looked up in the state and table that an accepted reading leaves.
+  module _ (ls : List Leaf) (e : segment brand bytes ≡ some ls) (fits : length ls ≤ room table) (t : ℕ) where
+    look : lookupOf (o .state) (o .table) t ≡ lookIn (length ls) (rowsOf ls ++ drop (recordNumbers * length ls) table) t
+    look =
+        let a : Accepts o table ls = accepts ls e fits in
+        rw (a .states, a .lists) (lookup-listed (a .count) ls (a .top) (drop (recordNumbers * length ls) table) t (in-range (state.Accepted (a .count) (length ls) (a .top)) .1 (rw (a .states) at whole-in-range)))
+
+    -- A time within the index's own time line gets the one leaf that covers it.
+    pub found : (top : Opened) → topIndex brand bytes ≡ some top → top .index .time ≤ t → t < top .index .time + durations (top .index .entries) →
+        (one : One (λ l. covers t l ≡ true) ls) × (lookupOf (o .state) (o .table) t ≡ answer.Found (suc (one .place)) (recordOf (one .item)))
+    found top q from to = let (one, r) = segment-found brand bytes ls top e q (drop (recordNumbers * length ls) table) t from to in (one, look ∙ r)
+
+    -- A time is refused exactly when no leaf covers it.
+    pub refused-exactly : ((x : Refusal) × (lookupOf (o .state) (o .table) t ≡ answer.Refused x)) ↔ NoLeafCovers ls t
+    refused-exactly = rw look (lookup-refuses ls (drop (recordNumbers * length ls) table) t)
+
+    -- Before the list it is 23, past it 24.
+    pub before : (top : Opened) → topIndex brand bytes ≡ some top → t < top .index .time → lookupOf (o .state) (o .table) t ≡ answer.Refused (refusal 23 0)
+    before top q h = look ∙ segment-before brand bytes ls top e q (drop (recordNumbers * length ls) table) t h
+
+    pub past : (top : Opened) → topIndex brand bytes ≡ some top → top .index .time + durations (top .index .entries) ≤ t → lookupOf (o .state) (o .table) t ≡ answer.Refused (refusal 24 0)
+    past top q h = look ∙ segment-past brand bytes ls top e q (drop (recordNumbers * length ls) table) t h
