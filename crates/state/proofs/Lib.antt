@@ -11,3 +11,4 @@ pub mod Cuts
 pub mod Kept
 pub mod Past
 pub mod Edges
+pub mod Jump

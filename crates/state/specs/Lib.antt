@@ -11,3 +11,4 @@ pub mod Ranges
 pub mod Calls
 pub mod Named
 pub mod Parts
+pub mod Jump

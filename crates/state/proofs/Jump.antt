@@ -1,0 +1,131 @@
+-- The jump law: the bytes of a skipped body, but for its last, change nothing but the count of bytes read.
+use Prim.Native.Nat.{ℕ, zero, suc, _+_, _≤_, _<_}
+use mathlib.Core.Path.{_≡_, refl, ap, sym, _∙_}
+use mathlib.Core.List.{List, [], _∷_, _++_}
+use mathlib.Core.Bool.{Bool, true, false}
+use native.Mathlib.Omega.{arith}
+use lib.Dec.{eqb, leb}
+use lib.ListN.{length}
+use borrow.Author.Tests.{lt-leb, ne-eqb}
+use Rattle.basics.specs.Choose.{pick}
+use Rattle.basics.proofs.Picks.{pick-no}
+use Rattle.segment.specs.Constants.{limit}
+use Rattle.machine.specs.Faults.{shows, unless}
+use Rattle.machine.specs.Run.{Sub, go, done, bad, lift}
+use Rattle.machine.specs.Lists.{Box, inHead, inBody, Kind, stepBox, Boxes, stepBoxes}
+use Rattle.state.specs.declared.Track.{Track}
+use Rattle.state.specs.declared.Span.{Span}
+use Rattle.state.specs.declared.Slot.{Slot}
+use Rattle.state.specs.declared.TrafBody.{TrafBody}
+use Rattle.state.specs.declared.TrafBody.the-variants as trafs
+use Rattle.state.specs.declared.TrafBoxes.{TrafBoxes}
+use Rattle.state.specs.declared.TrafBoxes.the-variants as trafBox
+use Rattle.state.specs.declared.MoofBody.{MoofBody}
+use Rattle.state.specs.declared.MoofBody.the-variants as moofs
+use Rattle.state.specs.declared.MoofBoxes.{MoofBoxes}
+use Rattle.state.specs.declared.MoofBoxes.the-variants as moofBox
+use Rattle.state.specs.declared.LeafBody.{LeafBody}
+use Rattle.state.specs.declared.LeafBody.the-variants as leaves
+use Rattle.state.specs.declared.LeafBoxes.{LeafBoxes}
+use Rattle.state.specs.declared.LeafBoxes.the-variants as leafBox
+use Rattle.state.specs.declared.OpeningBody.{OpeningBody}
+use Rattle.state.specs.declared.OpeningBody.the-variants as openings
+use Rattle.state.specs.declared.OpeningBoxes.{OpeningBoxes}
+use Rattle.state.specs.declared.OpeningBoxes.the-variants as openingBox
+use Rattle.state.specs.declared.GapBoxes.{GapBoxes}
+use Rattle.state.specs.declared.GapBoxes.the-variants as gaps
+use Rattle.state.specs.declared.Stage.{Stage}
+use Rattle.state.specs.declared.Stage.the-variants as stage
+use Rattle.state.specs.Flow.{Flow, Left, left}
+use Rattle.state.specs.Traf.{nothing, headed, stepTrafBody, trafBoxes, wrapTraf, stepTraf}
+use Rattle.state.specs.Leaf.{skipped, stepMoofBody, moofBoxes, wrapMoof, stepMoof, stepLeafBody, leafBoxes, wrapLeaf, stepLeaf}
+use Rattle.state.specs.Opening.{passed, stepOpeningBody, opening, wrapOpening, stepOpening}
+use Rattle.state.specs.Stages.{gapBoxes, wrapGap, stepGap, stepStage}
+use Rattle.state.specs.Step.{World, reading, settle, pastLimit, step, run}
+use Rattle.state.specs.Jump.{trafBodySkips, trafSkips, moofBodySkips, moofSkips, leafBodySkips, leafSkips, openingBodySkips, openingSkips, gapSkips, skips}
+
+-- before the last byte of a skipped body nothing ends
+module _ {S R : Type 0} (r : R) (s : S) where
+  skip-stays : (stop n : ℕ) (f : Flow) → suc n < stop → pick {A = Sub S R Flow Left} (leb stop (suc n)) (done r f) (go s f) ≡ go s f
+  skip-stays stop n f h = pick-no (leb stop (suc n)) (done r f) (go s f) (lt-leb stop (suc n) h)
+
+-- a list of boxes stays where its box's body does
+module _ {A B R Q S : Type 0} (l : Boxes A B R Q Flow Left) (wrap : A → Box B → S) where
+  body-stays : (a : A) (s : B) (f : Flow) (n b : ℕ) → l .box a .body s f n b ≡ go s f → stepBoxes l wrap a (inBody s) f n b ≡ go (wrap a (inBody s)) f
+  unfolding stepBox lift
+  body-stays a s f n b e = rw e
+
+traf-body-stays : (id : ℕ) (t : Track) (s : TrafBody) (f : Flow) (n b : ℕ) → suc n < trafBodySkips s → stepTrafBody id t s f n b ≡ go s f
+unfolding stepTrafBody trafBodySkips
+traf-body-stays id t (trafs.Skip stop) f n b h = skip-stays nothing (trafs.Skip stop) stop n f h
+traf-body-stays id t (trafs.Rest stop r) f n b h = skip-stays (headed r) (trafs.Rest stop r) stop n f h
+traf-body-stays id t (trafs.Field p more acc) f n b h = absurd (omega arith)
+
+traf-stays : (id : ℕ) (span : Span) (s : TrafBoxes) (f : Flow) (n b : ℕ) → suc n < trafSkips s → stepTraf id span s f n b ≡ go s f
+unfolding stepTraf trafSkips
+traf-stays id span (trafBox.Head so x) f n b h = absurd (omega arith)
+traf-stays id span (trafBox.Body so s) f n b h = body-stays (trafBoxes id span) wrapTraf so s f n b (traf-body-stays id (so .track) s f n b h)
+
+moof-body-stays : (id : ℕ) (s : MoofBody) (f : Flow) (n b : ℕ) → suc n < moofBodySkips s → stepMoofBody id s f n b ≡ go s f
+unfolding stepMoofBody moofBodySkips lift
+moof-body-stays id (moofs.Skip stop) f n b h = skip-stays skipped (moofs.Skip stop) stop n f h
+moof-body-stays id (moofs.Traf span s) f n b h = rw (traf-stays id span s f n b h)
+
+moof-stays : (id end : ℕ) (s : MoofBoxes) (f : Flow) (n b : ℕ) → suc n < moofSkips s → stepMoof id end s f n b ≡ go s f
+unfolding stepMoof moofSkips
+moof-stays id end (moofBox.Head seen x) f n b h = absurd (omega arith)
+moof-stays id end (moofBox.Body seen s) f n b h = body-stays (moofBoxes id end) wrapMoof seen s f n b (moof-body-stays id s f n b h)
+
+leaf-body-stays : (id : ℕ) (s : LeafBody) (f : Flow) (n b : ℕ) → suc n < leafBodySkips s → stepLeafBody id s f n b ≡ go s f
+unfolding stepLeafBody leafBodySkips lift
+leaf-body-stays id (leaves.Skip stop) f n b h = skip-stays skipped (leaves.Skip stop) stop n f h
+leaf-body-stays id (leaves.Moof end s) f n b h = rw (moof-stays id end s f n b h)
+
+leaf-stays : (id : ℕ) (slot : Slot) (s : LeafBoxes) (f : Flow) (n b : ℕ) → suc n < leafSkips s → stepLeaf id slot s f n b ≡ go s f
+unfolding stepLeaf leafSkips
+leaf-stays id slot (leafBox.Head so x) f n b h = absurd (omega arith)
+leaf-stays id slot (leafBox.Body so s) f n b h = body-stays (leafBoxes id slot) wrapLeaf so s f n b (leaf-body-stays id s f n b h)
+
+opening-body-stays : (brand : ℕ) (s : OpeningBody) (f : Flow) (n b : ℕ) → suc n < openingBodySkips s → stepOpeningBody brand s f n b ≡ go s f
+unfolding stepOpeningBody openingBodySkips
+opening-body-stays brand (openings.Skip stop) f n b h = skip-stays passed (openings.Skip stop) stop n f h
+opening-body-stays brand (openings.Styp span p found more acc) f n b h = absurd (omega arith)
+opening-body-stays brand (openings.Index span s) f n b h = absurd (omega arith)
+
+opening-stays : (brand : ℕ) (s : OpeningBoxes) (f : Flow) (n b : ℕ) → suc n < openingSkips s → stepOpening brand s f n b ≡ go s f
+unfolding stepOpening openingSkips
+opening-stays brand (openingBox.Head branded x) f n b h = absurd (omega arith)
+opening-stays brand (openingBox.Body branded s) f n b h = body-stays (opening brand) wrapOpening branded s f n b (opening-body-stays brand s f n b h)
+
+gap-stays : (end : ℕ) (s : GapBoxes) (f : Flow) (n b : ℕ) → suc n < gapSkips s → stepGap end s f n b ≡ go s f
+unfolding stepGap gapSkips
+gap-stays end (gaps.Head x) f n b h = absurd (omega arith)
+gap-stays end (gaps.Body stop) f n b h = body-stays (gapBoxes end) wrapGap tt stop f n b (skip-stays tt stop stop n f h)
+
+pub stage-stays : (s : Stage) (f : Flow) (n b : ℕ) → suc n < skips s → stepStage s f n b ≡ go s f
+unfolding stepStage skips lift
+stage-stays (stage.Opening brand s) f n b h = rw (opening-stays brand s f n b h)
+stage-stays (stage.Gap top l end s) f n b h = rw (gap-stays end s f n b h)
+stage-stays (stage.Entry top ls) f n b h = absurd (omega arith)
+stage-stays (stage.Leaf top ls slot s) f n b h = rw (leaf-stays (top .id) slot s f n b h)
+stage-stays (stage.Inner top ls slot s) f n b h = absurd (omega arith)
+
+-- row 3 does not show before the limit
+past-none : (n : ℕ) → n < limit → pastLimit n ≡ []
+unfolding shows pick
+past-none n low = rw (ne-eqb n limit (λ e. omega arith))
+
+-- one byte of a skipped body, and all of them but the last
+step-stays : (n : ℕ) (s : Stage) (f : Flow) (b : ℕ) → n < limit → suc n < skips s → step (reading n s f) b ≡ reading (suc n) s f
+unfolding step settle unless
+step-stays n s f b low h = rw (past-none n low, stage-stays s f n b h)
+
+pub jump : (xs bytes : List ℕ) (n : ℕ) (s : Stage) (f : Flow) → n + length xs ≤ limit → n + length xs < skips s →
+    run (reading n s f) (xs ++ bytes) ≡ run (reading (n + length xs) s f) bytes
+unfolding run
+jump [] bytes n s f low h = let e : n + length {A = ℕ} [] ≡ n = omega arith in rw e
+jump (x ∷ xs) bytes n s f low h =
+    let e : suc n + length xs ≡ n + length (x ∷ xs) = omega arith in
+    ap (λ (w : World). run w (xs ++ bytes)) (step-stays n s f x (omega arith) (omega arith))
+    ∙ jump xs bytes (suc n) s f (omega arith) (omega arith)
+    ∙ ap (λ (m : ℕ). run (reading m s f) bytes) e
