@@ -1,4 +1,6 @@
 pub mod Edges
+pub mod Rules
+pub mod Samples
 pub mod Spans
 pub mod Ticks
 pub mod Stands
