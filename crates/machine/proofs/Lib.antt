@@ -8,3 +8,4 @@ pub mod Kept
 pub mod Left
 pub mod Lowest
 pub mod Readings
+pub mod Shown

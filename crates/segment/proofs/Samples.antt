@@ -4,7 +4,7 @@ use Prim.Native.Nat.{ℕ, zero, suc, _+_, _*_, _/_, _%_}
 use mathlib.Core.Path.{_≡_, refl}
 use mathlib.Core.List.{List, [], _∷_, _++_}
 use mathlib.Core.Option.{Option, some, none}
-use lib.ListN.{length, take, drop, replicate}
+use lib.ListN.{length, take}
 use Rattle.basics.specs.Bytes
 use Rattle.basics.specs.Choose
 use Rattle.segment.specs.Constants.{typeBit, styp, sidx, moof, traf, tfhd, tfdt, tfad, mdat}

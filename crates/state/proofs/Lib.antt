@@ -12,3 +12,4 @@ pub mod Kept
 pub mod Past
 pub mod Edges
 pub mod Jump
+pub mod Phases
