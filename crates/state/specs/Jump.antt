@@ -1,5 +1,8 @@
 -- Skipped bodies: up to which place the bytes change nothing but the count.
-use Prim.Native.Nat.{ℕ, zero, suc}
+use Prim.Native.Nat.{ℕ, zero, suc, _-_}
+use lib.Dec.{ltb}
+use Rattle.basics.specs.Choose.{pick}
+use Rattle.segment.specs.Constants.{limit}
 use Rattle.state.specs.declared.TrafBody.{TrafBody}
 use Rattle.state.specs.declared.TrafBody.the-variants as trafs
 use Rattle.state.specs.declared.TrafBoxes.{TrafBoxes}
@@ -66,3 +69,10 @@ skips (stage.Gap top l end s) = gapSkips s
 skips (stage.Entry top ls) = 0
 skips (stage.Leaf top ls slot s) = leafSkips s
 skips (stage.Inner top ls slot s) = 0
+
+unfoldable pub least : ℕ → ℕ → ℕ
+least a b = pick (ltb a b) a b
+
+-- of so many bytes at hand, how many pass at once after `n` bytes: those of a skipped body but for its last, and within the limit
+unfoldable pub passing : Stage → ℕ → ℕ → ℕ
+passing s n rest = least rest (least (skips s) limit - suc n)
