@@ -10,7 +10,7 @@ use Rattle.lookup.specs.declared.Record.{Record}
 use Rattle.lookup.specs.Lookup.{covers}
 
 -- where a test fails, "and" with it fails
-and-no : (a b : Bool) → b ≡ false → (a && b) ≡ false
+pub and-no : (a b : Bool) → b ≡ false → (a && b) ≡ false
 and-no true b e = e
 and-no false b e = refl
 

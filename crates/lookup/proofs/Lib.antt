@@ -3,3 +3,5 @@ pub mod Covering
 pub mod Listed
 pub mod TheLeaf
 pub mod Written
+pub mod Passing
+pub mod OneOutcome

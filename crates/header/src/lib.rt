@@ -1,0 +1,206 @@
+// The header of a box, one byte of it at a time, and what its size shows once it is read.
+ghost use mathlib.Core.Path.{_≡_};
+ghost use Prim.Native.Nat.{_+_, _*_, _<_, _≤_};
+ghost use Rattle.segment.specs.Constants.{limit};
+ghost use Rattle.machine.specs.Heads.{sizeFaults, sized, stepHead};
+ghost use Rattle.state.specs.Flow.{Flow, left};
+ghost use Rattle.state.specs.Rows.{bodyLength, topLengths};
+ghost use Rattle.state.specs.Ranges.{Within, headBounds};
+ghost use Rattle.header.specs.Views.{viewHead};
+ghost use Rattle.header.specs.Flaws.{flawOf};
+use machine::Head;
+use machine::Header;
+use machine::Refusal;
+
+// The types `styp` and `sidx`, as the numbers that their letters spell.
+const STYP: u64 = 1937013104;
+
+const SIDX: u64 = 1936286840;
+
+// What a byte makes of a header: it goes on, it is read, or it is refused.
+pub enum HeadStep {
+    Go(Head),
+    Done(Header),
+    Bad(Refusal),
+}
+
+// A number's next byte. A number of eight bytes has seven before its last, so that no sum wraps.
+pub fn spelled(acc: u64, b: u8) -> u64
+    requires { ⌜ acc < 72057594037927936 ⌝ }
+    ensures { λ r. ⌜ r ≡ acc * 256 + b ⌝ }
+{
+    acc * 256 + (b as u64)
+}
+
+fn first_byte(end: u64, n: u64, b: u8) -> HeadStep
+    requires { ⌜ n < limit ⌝ }
+    ensures { λ r. ⌜ ((f : Flow) → viewHead f r ≡ stepHead left end Head.First f n b) ⌝ }
+{
+    if end < n + 8 {
+        return HeadStep::Bad(Refusal {
+            number: 5,
+            place: n,
+        });
+    }
+    HeadStep::Go(Head::Size {
+        pos: n,
+        more: 2,
+        acc: b as u64,
+    })
+}
+
+fn size_byte(end: u64, pos: u64, more: u64, acc: u64, n: u64, b: u8) -> HeadStep
+    requires { ⌜ acc < 72057594037927936 ⌝ }
+    ensures { λ r. ⌜ ((f : Flow) → viewHead f r ≡ stepHead left end (Head.Size pos more acc) f n b) ⌝ }
+{
+    let v = spelled(acc, b);
+    if more == 0 {
+        return HeadStep::Go(Head::Kind {
+            pos,
+            size: v,
+            more: 3,
+            acc: 0,
+        });
+    }
+    HeadStep::Go(Head::Size {
+        pos,
+        more: more - 1,
+        acc: v,
+    })
+}
+
+// Size and type are read. Size 1 means that a 64-bit size follows.
+fn sized_by(end: u64, pos: u64, size: u64, kind: u64) -> HeadStep
+    requires { ⌜ pos ≤ limit ⌝ }
+    ensures { λ r. ⌜ ((f : Flow) → viewHead f r ≡ sized left end pos size kind f) ⌝ }
+{
+    if size != 1 {
+        return HeadStep::Done(Header {
+            pos,
+            kind,
+            size,
+            head: 8,
+        });
+    }
+    if end < pos + 16 {
+        return HeadStep::Bad(Refusal {
+            number: 5,
+            place: pos,
+        });
+    }
+    HeadStep::Go(Head::Large {
+        pos,
+        kind,
+        more: 7,
+        acc: 0,
+    })
+}
+
+fn kind_byte(end: u64, pos: u64, size: u64, more: u64, acc: u64, n: u64, b: u8) -> HeadStep
+    requires { ⌜ (pos ≤ limit) × (acc < 72057594037927936) ⌝ }
+    ensures { λ r. ⌜ ((f : Flow) → viewHead f r ≡ stepHead left end (Head.Kind pos size more acc) f n b) ⌝ }
+{
+    let v = spelled(acc, b);
+    if more == 0 {
+        return sized_by(end, pos, size, v);
+    }
+    HeadStep::Go(Head::Kind {
+        pos,
+        size,
+        more: more - 1,
+        acc: v,
+    })
+}
+
+fn large_byte(end: u64, pos: u64, kind: u64, more: u64, acc: u64, n: u64, b: u8) -> HeadStep
+    requires { ⌜ acc < 72057594037927936 ⌝ }
+    ensures { λ r. ⌜ ((f : Flow) → viewHead f r ≡ stepHead left end (Head.Large pos kind more acc) f n b) ⌝ }
+{
+    let v = spelled(acc, b);
+    if more == 0 {
+        return HeadStep::Done(Header {
+            pos,
+            kind,
+            size: v,
+            head: 16,
+        });
+    }
+    HeadStep::Go(Head::Large {
+        pos,
+        kind,
+        more: more - 1,
+        acc: v,
+    })
+}
+
+// One byte of a header whose container ends at `end`; `n` bytes stand before it.
+pub fn head_byte(end: u64, h: Head, n: u64, b: u8) -> HeadStep
+    requires { ⌜ Within (headBounds h) × (n < limit) ⌝ }
+    ensures { λ r. ⌜ ((f : Flow) → viewHead f r ≡ stepHead left end h f n b) ⌝ }
+{
+    match h {
+        Head::First => first_byte(end, n, b),
+        Head::Size { pos, more, acc } => size_byte(end, pos, more, acc, n, b),
+        Head::Kind {
+            pos,
+            size,
+            more,
+            acc,
+        } => kind_byte(end, pos, size, more, acc, n, b),
+        Head::Large {
+            pos,
+            kind,
+            more,
+            acc,
+        } => large_byte(end, pos, kind, more, acc, n, b),
+    }
+}
+
+// The lowest number that a header's size shows, or 0. A 64-bit size may be any, so that no end is computed.
+pub fn size_flaw(end: u64, h: Header) -> u64
+    ensures { λ r. ⌜ r ≡ flawOf (sizeFaults end h) ⌝ }
+{
+    if h.size < h.head {
+        return 4;
+    }
+    if end < h.pos {
+        return 5;
+    }
+    if end - h.pos < h.size {
+        return 5;
+    }
+    0
+}
+
+// How long a box's body is: 0 where its size is under its header's.
+pub fn body_length(h: Header) -> u64
+    ensures { λ r. ⌜ r ≡ bodyLength h ⌝ }
+{
+    if h.size < h.head {
+        return 0;
+    }
+    h.size - h.head
+}
+
+// 6 where a `styp` or a `sidx` has no length that it may have, or 0.
+pub fn length_flaw(h: Header) -> u64
+    ensures { λ r. ⌜ r ≡ flawOf (topLengths h) ⌝ }
+{
+    let long = body_length(h);
+    if h.kind == STYP {
+        if long < 8 {
+            return 6;
+        }
+        if long % 4 != 0 {
+            return 6;
+        }
+        return 0;
+    }
+    if h.kind == SIDX {
+        if long < 24 {
+            return 6;
+        }
+        return 0;
+    }
+    0
+}

@@ -1,0 +1,46 @@
+use native.Mathlib.Omega.{arith}
+use Rattle.index.proofs.Numbers.{part-most, word-most}
+use borrow.Author.Needs.{needs}
+use Rattle.index.proofs.byte_place.Statement.{statement}
+use Rattle.index.proofs.byte_place.Tie as tie
+
+part-of-requires : tie.Need-part-of-requires
+part-of-requires c κs = search needs
+
+mul-result : tie.Need-mul-result
+mul-result c = search needs
+
+add-result : tie.Need-add-result
+add-result c = omega (arith, part-most (c .before .before .args .p) (c .before .before .pre .0))
+
+word-place-requires : tie.Need-word-place-requires
+word-place-requires c κs = search needs
+
+add-result-2 : tie.Need-add-result-2
+add-result-2 c =
+    omega
+    (arith, part-most (c .before .before .before .args .p) (c .before .before .before .pre .0), word-most (c .before .before .before .args .part))
+
+sub-result : tie.Need-sub-result
+sub-result c = search needs
+
+add-result-3 : tie.Need-add-result-3
+add-result-3 c =
+    omega
+    (arith, part-most (c .before .before .before .args .p) (c .before .before .before .pre .0), word-most (c .before .before .before .args .part))
+
+returns : tie.Need-returns
+returns c = search needs
+
+pub byte-place-spec : {M : Type 1} → statement M
+byte-place-spec =
+    tie.close
+    (tie.spec
+    part-of-requires
+    mul-result
+    add-result
+    word-place-requires
+    add-result-2
+    sub-result
+    add-result-3
+    returns)

@@ -1,0 +1,44 @@
+use Rattle.state.specs.Sidx.{closeSidx, sumFaults}
+use borrow.Author.Needs.{needs}
+use Rattle.index.proofs.close_index.Statement.{statement}
+use Rattle.index.proofs.close_index.Tie as tie
+
+enum-told : tie.Need-enum-told
+enum-told c = search needs
+
+too-much-requires : tie.Need-too-much-requires
+too-much-requires c κs = search needs
+
+unless-shown-requires : tie.Need-unless-shown-requires
+unless-shown-requires c κs = search needs
+
+enum-known-p : tie.Need-enum-known-p
+enum-known-p c = search needs
+
+other-sums-requires : tie.Need-other-sums-requires
+other-sums-requires c κs =
+    (rw (c .before .p .given .1) at (c .before .before .before .pre .0), c .before .before .before .pre .1, c .before .before .before .pre .2)
+
+unless-shown-requires-2 : tie.Need-unless-shown-requires-2
+unless-shown-requires-2 c κs = search needs
+
+returns : tie.Need-returns
+unfolding closeSidx sumFaults
+returns c = λ leaves last work table. rw (c .before .before .enum-told .given .1, ← c .before .too-much .ensures) (c .unless-shown .ensures _)
+
+returns-2 : tie.Need-returns-2
+unfolding closeSidx sumFaults
+returns-2 c = λ leaves last work table. rw (c .before .before .before .p .given .1, ← c .before .other-sums .ensures) (c .unless-shown2 .ensures _)
+
+pub close-index-spec : {M : Type 1} → statement M
+close-index-spec =
+    tie.close
+    (tie.spec
+    enum-told
+    too-much-requires
+    unless-shown-requires
+    enum-known-p
+    other-sums-requires
+    unless-shown-requires-2
+    returns
+    returns-2)

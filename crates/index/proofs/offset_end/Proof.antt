@@ -1,0 +1,26 @@
+use Rattle.machine.specs.Faults.{unless}
+use Rattle.state.specs.Sidx.{fieldEnds, offsetFaults}
+use borrow.Author.Needs.{needs}
+use Rattle.index.proofs.offset_end.Statement.{statement}
+use Rattle.index.proofs.offset_end.Tie as tie
+
+enum-told : tie.Need-enum-told
+enum-told c = search needs
+
+enum-told-2 : tie.Need-enum-told-2
+enum-told-2 c = search needs
+
+unless-shown-requires : tie.Need-unless-shown-requires
+unless-shown-requires c κs = search needs
+
+returns : tie.Need-returns
+unfolding fieldEnds offsetFaults unless
+returns c = λ f n. rw (c .enum-told .given .1)
+
+returns-2 : tie.Need-returns-2
+unfolding fieldEnds offsetFaults
+returns-2 c = λ f n. rw (c .before .enum-told2 .given .1) (c .unless-shown .ensures f)
+
+pub offset-end-spec : {M : Type 1} → statement M
+offset-end-spec =
+    tie.close (tie.spec enum-told enum-told-2 unless-shown-requires returns returns-2)

@@ -1,0 +1,29 @@
+use borrow.Author.Tests.{eq-eqb, ne-eqb}
+use native.Mathlib.Numerals.{add-one}
+use Rattle.basics.specs.Choose.{pick}
+use Rattle.state.specs.Sidx.{entryEnds}
+use borrow.Author.Needs.{needs}
+use Rattle.index.proofs.sap_end.Statement.{statement}
+use Rattle.index.proofs.sap_end.Tie as tie
+
+add-if1 : tie.Need-add-if1
+add-if1 c = search needs
+
+close-index-requires : tie.Need-close-index-requires
+close-index-requires c κs = search needs
+
+returns : tie.Need-returns
+unfolding entryEnds pick
+returns c = λ leaves last work table v.
+    rw (← add-one (c .before .before .before .before .args .sums .next), eq-eqb _ _ (c .before .if1 .taken))
+    (c .close-index .ensures leaves last work table)
+
+add-t8 : tie.Need-add-t8
+add-t8 c = search needs
+
+returns-2 : tie.Need-returns-2
+unfolding entryEnds pick
+returns-2 c = λ leaves last work table v. rw (← add-one (c .before .before .before .before .args .sums .next), ne-eqb _ _ (c .before .if1 .left))
+
+pub sap-end-spec : {M : Type 1} → statement M
+sap-end-spec = tie.close (tie.spec add-if1 close-index-requires returns add-t8 returns-2)

@@ -1,0 +1,36 @@
+use Prim.Native.Nat.{_+_}
+use borrow.Author.Tests.{lt-ltb, le-ltb}
+use native.Mathlib.Omega.{arith}
+use Rattle.segment.specs.Constants.{limit}
+use Rattle.index.proofs.Numbers.{past-time}
+use borrow.Author.Needs.{needs}
+use Rattle.index.proofs.too_much.Statement.{statement}
+use Rattle.index.proofs.too_much.Tie as tie
+
+sub-room : tie.Need-sub-room
+sub-room c = search needs
+
+returns : tie.Need-returns
+returns c = rw (lt-ltb limit (c .before .before .args .n + c .before .before .args .x .offset + c .before .before .args .x .sizes) (omega arith))
+
+returns-2 : tie.Need-returns-2
+returns-2 c =
+    rw
+    (lt-ltb limit
+    (c .before .before .before .before .before .args .n + c .before .before .before .before .before .args .x .offset + c .before .before .before .before .before .args .x .sizes)
+    (omega arith))
+
+sub-result : tie.Need-sub-result
+sub-result c = search needs
+
+returns-3 : tie.Need-returns-3
+returns-3 c =
+    rw
+    (le-ltb limit
+    (c .before .before .before .before .before .before .before .args .n + c .before .before .before .before .before .before .before .args .x .offset + c .before .before .before .before .before .before .before .args .x .sizes)
+    (omega arith))
+    (past-time (c .before .before .before .before .before .before .before .args .x .time)
+    (c .before .before .before .before .before .before .before .args .x .durations) (omega arith))
+
+pub too-much-spec : {M : Type 1} → statement M
+too-much-spec = tie.close (tie.spec sub-room returns returns-2 sub-result returns-3)

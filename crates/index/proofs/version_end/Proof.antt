@@ -1,0 +1,25 @@
+use native.Mathlib.Omega.{arith}
+use Rattle.index.proofs.Laws.{second-lower}
+use Rattle.state.specs.Sidx.{fieldEnds, versionFaults}
+use borrow.Author.Needs.{needs}
+use Rattle.index.proofs.version_end.Statement.{statement}
+use Rattle.index.proofs.version_end.Tie as tie
+
+unless-shown-requires : tie.Need-unless-shown-requires
+unless-shown-requires c κs = search needs
+
+too-short-requires : tie.Need-too-short-requires
+too-short-requires c κs = search needs
+
+unless-shown-requires-2 : tie.Need-unless-shown-requires-2
+unless-shown-requires-2 c κs = search needs
+
+returns : tie.Need-returns
+unfolding fieldEnds versionFaults
+returns c = λ p d f.
+    rw (second-lower _ _ 10 6 _ _ _ (omega arith), ← c .before .too-short .ensures, ← c .before .before .unless-shown .ensures f)
+    (c .unless-shown2 .ensures f)
+
+pub version-end-spec : {M : Type 1} → statement M
+version-end-spec =
+    tie.close (tie.spec unless-shown-requires too-short-requires unless-shown-requires-2 returns)

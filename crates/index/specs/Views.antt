@@ -1,0 +1,41 @@
+-- What the code's answers say in the definition's words.
+use Prim.Native.Nat.{ℕ, _*_, _≤_, _<_}
+use mathlib.Core.List.{List}
+use Rattle.segment.specs.Constants.{wordLimit, typeBit, mostEntries}
+use Rattle.machine.specs.Run.{Sub, go, done, bad}
+use Rattle.state.specs.declared.Sums.{Sums}
+use Rattle.state.specs.declared.Sidx.{Sidx}
+use Rattle.state.specs.declared.Index.{Index}
+use Rattle.state.specs.Flow.{Flow, Left, left}
+use Rattle.state.specs.Sidx.{Place, topmost, under}
+use Rattle.index.specs.declared.Where.{Where}
+use Rattle.index.specs.declared.Where.the-variants as places
+use Rattle.index.specs.declared.IndexStep.{IndexStep}
+use Rattle.index.specs.declared.IndexStep.the-variants as steps
+
+abbrev pub placeOf : Where → Place
+placeOf places.Topmost = topmost
+placeOf (places.Under top slot depth) = under top slot depth
+
+-- an answer, while this flows
+abbrev pub viewIndex : Flow → IndexStep → Sub Sidx Index Flow Left
+viewIndex f (steps.Go s) = go s f
+viewIndex f (steps.Done x) = done x f
+viewIndex f (steps.Bad x) = bad x (left f)
+
+abbrev pub flowOf : ℕ → ℕ → ℕ → List ℕ → List ℕ → Flow
+flowOf leaves at last work table = record { leaves = leaves; now = at; last = last; work = work; table = table }
+
+-- what code needs to stay inside its numbers: an inner index is on level 4 at the most,
+abbrev pub Shallow : Where → Type 0
+Shallow places.Topmost = Unit {0}
+Shallow (places.Under top slot depth) = depth < 4
+
+-- its entry ends no earlier than it starts, at the time `at`,
+abbrev pub Timely : Where → ℕ → Type 0
+Timely places.Topmost at = Unit {0}
+Timely (places.Under top slot depth) at = at ≤ slot .until
+
+-- and sums of at most 1,024 entries
+abbrev pub Summed : Sums → Type 0
+Summed s = (s .next < s .count) × (s .count ≤ mostEntries) × (s .sizes ≤ typeBit * mostEntries) × (s .durations ≤ wordLimit * mostEntries)

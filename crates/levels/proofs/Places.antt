@@ -1,0 +1,56 @@
+-- The words of an entry in the work area, and that the next entry of the innermost index stands within it.
+use Prim.Native.Nat.{ℕ, suc, _+_, _*_, _%_, _≤_, _<_}
+use mathlib.Core.Path.{_≡_, ap, subst, _∙_}
+use mathlib.Core.List.{List, _∷_}
+use native.Mathlib.Omega.{arith}
+use lib.ListN.{length, getD, drop}
+use lib.Seq.{drop-cons}
+use Rattle.basics.specs.Bytes.{numberFrom}
+use lib.Dec.{leb}
+use Rattle.segment.specs.Constants.{workBytes, entryBytes, typeBit}
+use Rattle.state.specs.declared.Levels.{Levels}
+use Rattle.state.specs.declared.Levels.the-variants as levels
+use Rattle.state.specs.Levels.{Entry, wordAt, entryAt, inmost, depth, entryPlace}
+use Rattle.state.specs.Ranges.{Within, levelsBounds}
+
+next-byte : (w : List ℕ) (i j : ℕ) → suc i ≡ j → i < length w → drop i w ≡ getD w i 0 ∷ drop j w
+next-byte w i j e h = drop-cons w i 0 h ∙ ap (λ (k : ℕ). getD w i 0 ∷ drop k w) e
+
+four-bytes : (w : List ℕ) (i : ℕ) → i + 4 ≤ length w → drop i w ≡ getD w i 0 ∷ getD w (i + 1) 0 ∷ getD w (i + 2) 0 ∷ getD w (i + 3) 0 ∷ drop (i + 4) w
+four-bytes w i h =
+    next-byte w i (i + 1) (omega arith) (omega arith)
+    ∙ ap (λ (l : List ℕ). getD w i 0 ∷ l) (next-byte w (i + 1) (i + 2) (omega arith) (omega arith)
+    ∙ ap (λ (l : List ℕ). getD w (i + 1) 0 ∷ l) (next-byte w (i + 2) (i + 3) (omega arith) (omega arith)
+    ∙ ap (λ (l : List ℕ). getD w (i + 2) 0 ∷ l) (next-byte w (i + 3) (i + 4) (omega arith) (omega arith))))
+
+-- the number that four bytes spell
+pub word-law : (w : List ℕ) (i : ℕ) (a b c d : ℕ) → i + 4 ≤ length w → a ≡ getD w i 0 → b ≡ getD w (i + 1) 0 → c ≡ getD w (i + 2) 0 → d ≡ getD w (i + 3) 0 → ((a * 256 + b) * 256 + c) * 256 + d ≡ wordAt w i
+unfolding numberFrom
+word-law w i a b c d h ea eb ec ed = rw (ea, eb, ec, ed, four-bytes w i h) (omega arith)
+
+pub depth-most : (ls : Levels) → (1 ≤ depth ls) × (depth ls ≤ 4)
+unfolding depth
+depth-most (levels.One a) = omega arith
+depth-most (levels.Two a b) = omega arith
+depth-most (levels.Three a b c) = omega arith
+depth-most (levels.Four a b c d) = omega arith
+
+pub next-most : (ls : Levels) → Within (levelsBounds ls) → (inmost ls .next ≤ inmost ls .count) × (inmost ls .count ≤ 1024)
+unfolding levelsBounds inmost
+next-most (levels.One a) w = omega arith
+next-most (levels.Two a b) w = omega arith
+next-most (levels.Three a b c) w = omega arith
+next-most (levels.Four a b c d) w = omega arith
+
+-- the same where the open indexes are known by another name
+pub next-of : (ls ks : Levels) → ls ≡ ks → Within (levelsBounds ls) → inmost ks .next ≤ 1024
+next-of ls ks e w = let k = next-most ks (subst (λ (q : Levels). Within (levelsBounds q)) e w) in omega arith
+
+-- an entry that is to come stands within the work area
+pub place-fits : (ls : Levels) → Within (levelsBounds ls) → inmost ls .next < inmost ls .count → entryPlace ls + entryBytes ≤ workBytes
+place-fits ls w h = omega (arith, depth-most ls .0, depth-most ls .1, next-most ls w .0, next-most ls w .1)
+
+-- an entry of three words
+pub entry-law : (w : List ℕ) (i a b c : ℕ) → a ≡ wordAt w i → b ≡ wordAt w (i + 4) → c ≡ wordAt w (i + 8) → _≡_ {A = Entry} (record { inner = leb typeBit a; size = a % typeBit; duration = b; sap = c }) (entryAt w i)
+unfolding entryAt
+entry-law w i a b c e k l = rw (e, k, l)

@@ -1,0 +1,33 @@
+use mathlib.Core.Path.{ap}
+use native.Mathlib.Omega.{arith}
+use Rattle.levels.proofs.Places.{depth-most, next-most}
+use Rattle.state.specs.declared.Level.{Level}
+use borrow.Author.Needs.{needs}
+use Rattle.levels.proofs.entry_place.Statement.{statement}
+use Rattle.levels.proofs.entry_place.Tie as tie
+
+depth-requires : tie.Need-depth-requires
+depth-requires c κs = search needs
+
+sub-around : tie.Need-sub-around
+sub-around c = omega (arith, c .depth .ensures, depth-most (c .before .args .ls) .0)
+
+inmost-requires : tie.Need-inmost-requires
+inmost-requires c κs = search needs
+
+mul-result : tie.Need-mul-result
+mul-result c = omega (arith, c .before .depth .ensures, depth-most (c .before .before .args .ls) .0, depth-most (c .before .before .args .ls) .1, next-most (c .before .before .args .ls) (c .before .before .pre) .0, next-most (c .before .before .args .ls) (c .before .before .pre) .1)
+
+mul-result-2 : tie.Need-mul-result-2
+mul-result-2 c = omega (arith, ap (λ (l : Level). l .next) (c .before .inmost .ensures), depth-most (c .before .before .before .args .ls) .0, depth-most (c .before .before .before .args .ls) .1, next-most (c .before .before .before .args .ls) (c .before .before .before .pre) .0, next-most (c .before .before .before .args .ls) (c .before .before .before .pre) .1)
+
+add-result : tie.Need-add-result
+add-result c = omega (arith, c .before .before .depth .ensures, ap (λ (l : Level). l .next) (c .before .inmost .ensures), depth-most (c .before .before .before .args .ls) .0, depth-most (c .before .before .before .args .ls) .1, next-most (c .before .before .before .args .ls) (c .before .before .before .pre) .0, next-most (c .before .before .before .args .ls) (c .before .before .before .pre) .1)
+
+returns : tie.Need-returns
+returns c = omega (arith, c .before .before .depth .ensures, ap (λ (l : Level). l .next) (c .before .inmost .ensures))
+
+pub entry-place-spec : {M : Type 1} → statement M
+entry-place-spec =
+    tie.close
+    (tie.spec depth-requires sub-around inmost-requires mul-result mul-result-2 add-result returns)

@@ -1,0 +1,22 @@
+use mathlib.Core.Path.{ap, sym, _∙_}
+use Prim.Native.Nat.{_+_}
+use mathlib.Core.Bool.{Bool, _&&_}
+use lib.Dec.{eqb}
+use borrow.Author.Needs.{needs}
+use Rattle.levels.proofs.fills.Statement.{statement}
+use Rattle.levels.proofs.fills.Tie as tie
+
+sum-is-requires : tie.Need-sum-is-requires
+sum-is-requires c κs = search needs
+
+sum-is-requires-2 : tie.Need-sum-is-requires-2
+sum-is-requires-2 c κs = search needs
+
+returns : tie.Need-returns
+returns c = c .sum-is2 .ensures ∙ sym (ap (λ (t : Bool). t && eqb (c .before .before .before .args .at + c .before .before .before .args .e .duration) (c .before .before .before .args .l .until)) (sym (c .before .before .sum-is .ensures) ∙ c .before .if1 .taken))
+
+returns-2 : tie.Need-returns-2
+returns-2 c = sym (ap (λ (t : Bool). t && eqb (c .before .before .args .at + c .before .before .args .e .duration) (c .before .before .args .l .until)) (sym (c .before .sum-is .ensures) ∙ c .if1 .left))
+
+pub fills-spec : {M : Type 1} → statement M
+fills-spec = tie.close (tie.spec sum-is-requires sum-is-requires-2 returns returns-2)

@@ -1,0 +1,20 @@
+use mathlib.Core.Path.{ap, _∙_}
+use Prim.Native.Nat.{ℕ}
+use native.Mathlib.Omega.{arith}
+use Rattle.levels.proofs.Places.{place-fits}
+use Rattle.state.specs.Levels.{entryAt}
+use borrow.Author.Needs.{needs}
+use Rattle.levels.proofs.next_entry.Statement.{statement}
+use Rattle.levels.proofs.next_entry.Tie as tie
+
+entry-place-requires : tie.Need-entry-place-requires
+entry-place-requires c κs = search needs
+
+entry-at-requires : tie.Need-entry-at-requires
+entry-at-requires c κs = omega (arith, c .entry-place .ensures, place-fits (c .before .before .args .ls) (c .before .before .pre .1) (c .before .before .pre .2), c .before .before .pre .0)
+
+returns : tie.Need-returns
+returns c = c .entry-at .ensures ∙ ap (λ (k : ℕ). entryAt (c .before .before .before .args .work .now) k) (c .before .entry-place .ensures)
+
+pub next-entry-spec : {M : Type 1} → statement M
+next-entry-spec = tie.close (tie.spec entry-place-requires entry-at-requires returns)

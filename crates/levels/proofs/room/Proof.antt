@@ -1,0 +1,12 @@
+use Rattle.levels.proofs.Rows.{room-most, room-less}
+use Rattle.levels.proofs.room.Statement.{statement}
+use Rattle.levels.proofs.room.Tie as tie
+
+returns : tie.Need-returns
+returns c = λ table e. room-most table _ e (c .if1 .taken)
+
+returns-2 : tie.Need-returns-2
+returns-2 c = λ table e. room-less table _ e (c .if1 .left)
+
+pub room-spec : {M : Type 1} → statement M
+room-spec = tie.close (tie.spec returns returns-2)

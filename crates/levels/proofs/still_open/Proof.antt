@@ -1,0 +1,63 @@
+use mathlib.Core.Path.{ap, sym, _∙_}
+use Rattle.state.specs.Levels.{stillOpen}
+use Rattle.levels.specs.Views.{stillFour}
+use borrow.Author.Needs.{needs}
+use Rattle.levels.proofs.still_open.Statement.{statement}
+use Rattle.levels.proofs.still_open.Tie as tie
+
+enum-known-ls : tie.Need-enum-known-ls
+enum-known-ls c = search needs
+
+still-one-requires : tie.Need-still-one-requires
+still-one-requires c κs = search needs
+
+enum-known-ls-2 : tie.Need-enum-known-ls-2
+enum-known-ls-2 c = search needs
+
+still-two-requires : tie.Need-still-two-requires
+still-two-requires c κs = search needs
+
+enum-known-ls-3 : tie.Need-enum-known-ls-3
+enum-known-ls-3 c = search needs
+
+still-three-requires : tie.Need-still-three-requires
+still-three-requires c κs = search needs
+
+enum-known-ls-4 : tie.Need-enum-known-ls-4
+enum-known-ls-4 c = search needs
+
+still-four-requires : tie.Need-still-four-requires
+still-four-requires c κs = search needs
+
+returns : tie.Need-returns
+unfolding stillOpen stillFour
+returns c = c .still-one .ensures ∙ sym (ap stillOpen (c .before .before .ls .given .1))
+
+returns-2 : tie.Need-returns-2
+unfolding stillOpen stillFour
+returns-2 c = c .still-two .ensures ∙ sym (ap stillOpen (c .before .before .ls2 .given .1))
+
+returns-3 : tie.Need-returns-3
+unfolding stillOpen stillFour
+returns-3 c = c .still-three .ensures ∙ sym (ap stillOpen (c .before .before .ls3 .given .1))
+
+returns-4 : tie.Need-returns-4
+unfolding stillOpen stillFour
+returns-4 c = c .still-four .ensures ∙ sym (ap stillOpen (c .before .before .ls4 .given .1))
+
+pub still-open-spec : {M : Type 1} → statement M
+still-open-spec =
+    tie.close
+    (tie.spec
+    enum-known-ls
+    still-one-requires
+    enum-known-ls-2
+    still-two-requires
+    enum-known-ls-3
+    still-three-requires
+    enum-known-ls-4
+    still-four-requires
+    returns
+    returns-2
+    returns-3
+    returns-4)

@@ -1,0 +1,69 @@
+use mathlib.Core.Path.{ap, sym, _∙_}
+use Rattle.levels.proofs.Places.{next-of}
+use Rattle.state.specs.Levels.{inmost, tookEntry}
+use Rattle.state.specs.declared.Level.{Level}
+use Rattle.state.specs.declared.Levels.the-variants as levels
+use borrow.Author.Needs.{needs}
+use Rattle.levels.proofs.took_entry.Statement.{statement}
+use Rattle.levels.proofs.took_entry.Tie as tie
+
+enum-known-ls : tie.Need-enum-known-ls
+enum-known-ls c = search needs
+
+took-requires : tie.Need-took-requires
+unfolding inmost
+took-requires c κs = next-of (c .before .before .before .args .ls) _ (c .before .ls .given .1) (c .before .before .before .pre)
+
+enum-known-ls-2 : tie.Need-enum-known-ls-2
+enum-known-ls-2 c = search needs
+
+took-requires-2 : tie.Need-took-requires-2
+unfolding inmost
+took-requires-2 c κs = next-of (c .before .before .before .args .ls) _ (c .before .ls2 .given .1) (c .before .before .before .pre)
+
+enum-known-ls-3 : tie.Need-enum-known-ls-3
+enum-known-ls-3 c = search needs
+
+took-requires-3 : tie.Need-took-requires-3
+unfolding inmost
+took-requires-3 c κs = next-of (c .before .before .before .args .ls) _ (c .before .ls3 .given .1) (c .before .before .before .pre)
+
+enum-known-ls-4 : tie.Need-enum-known-ls-4
+enum-known-ls-4 c = search needs
+
+took-requires-4 : tie.Need-took-requires-4
+unfolding inmost
+took-requires-4 c κs = next-of (c .before .before .before .args .ls) _ (c .before .ls4 .given .1) (c .before .before .before .pre)
+
+returns : tie.Need-returns
+unfolding tookEntry
+returns c = ap (λ (q : Level). levels.One q) (c .took .ensures) ∙ sym (ap tookEntry (c .before .before .ls .given .1))
+
+returns-2 : tie.Need-returns-2
+unfolding tookEntry
+returns-2 c = ap (λ (q : Level). levels.Two (c .before .before .ls2 .given .0 .0) q) (c .took2 .ensures) ∙ sym (ap tookEntry (c .before .before .ls2 .given .1))
+
+returns-3 : tie.Need-returns-3
+unfolding tookEntry
+returns-3 c = ap (λ (q : Level). levels.Three (c .before .before .ls3 .given .0 .0) (c .before .before .ls3 .given .0 .1 .0) q) (c .took3 .ensures) ∙ sym (ap tookEntry (c .before .before .ls3 .given .1))
+
+returns-4 : tie.Need-returns-4
+unfolding tookEntry
+returns-4 c = ap (λ (q : Level). levels.Four (c .before .before .ls4 .given .0 .0) (c .before .before .ls4 .given .0 .1 .0) (c .before .before .ls4 .given .0 .1 .1 .0) q) (c .took4 .ensures) ∙ sym (ap tookEntry (c .before .before .ls4 .given .1))
+
+pub took-entry-spec : {M : Type 1} → statement M
+took-entry-spec =
+    tie.close
+    (tie.spec
+    enum-known-ls
+    took-requires
+    enum-known-ls-2
+    took-requires-2
+    enum-known-ls-3
+    took-requires-3
+    enum-known-ls-4
+    took-requires-4
+    returns
+    returns-2
+    returns-3
+    returns-4)

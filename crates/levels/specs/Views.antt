@@ -1,0 +1,21 @@
+-- What the code's answers say, in the definitions' own types.
+use mathlib.Core.Option.{Option, some, none}
+use Rattle.basics.specs.Choose.{pick}
+use Rattle.state.specs.declared.Level.{Level}
+use Rattle.state.specs.declared.Levels.{Levels}
+use Rattle.state.specs.declared.Levels.the-variants as levels
+use Rattle.state.specs.Levels as defs
+use Rattle.levels.specs.declared.Entry.{Entry}
+use Rattle.levels.specs.declared.Still.{Still}
+use Rattle.levels.specs.declared.Still.the-variants as still
+
+abbrev pub entryOf : Entry → defs.Entry
+entryOf e = record { inner = e .inner; size = e .size; duration = e .duration; sap = e .sap }
+
+abbrev pub openOf : Still → Option Levels
+openOf (still.Open ls) = some ls
+openOf still.Closed = none
+
+-- the clause of `stillOpen` for four open indexes
+unfoldable pub stillFour : Level → Level → Level → Level → Option Levels
+stillFour a b c d = pick (defs.passedAll d) (defs.stillThree a b c) (some (levels.Four a b c d))

@@ -1,0 +1,321 @@
+// Entries read back from the work area, the indexes that stand open, and the leaf table's rows: what the stages of a reading share.
+// A sum that may pass a word's range is never made: it is compared by a difference.
+ghost use mathlib.Core.Path.{_≡_};
+ghost use mathlib.Core.Bool.{_&&_};
+ghost use mathlib.Core.List.{List};
+ghost use Prim.Native.Nat.{ℕ, suc, _+_, _-_, _*_, _<_, _≤_};
+ghost use lib.Dec.{eqb, ltb, leb};
+ghost use lib.ListN.{length, set};
+ghost use Rattle.segment.specs.Constants.{workBytes, recordNumbers, mostRecords, mostEntries, timeLimit};
+ghost use Rattle.state.specs.Flow as flows;
+ghost use Rattle.state.specs.Rows as faults;
+ghost use Rattle.state.specs.Levels as defs;
+ghost use Rattle.state.specs.Stages.{leafRow};
+ghost use Rattle.state.specs.Ranges.{Within, levelsBounds};
+ghost use Rattle.levels.specs.Views.{entryOf, openOf, stillFour};
+use state::Level;
+use state::Levels;
+use state::Slot;
+
+const TYPE_BIT: u64 = 2147483648;
+
+const LEVEL_BYTES: u64 = 12288;
+
+const ENTRY_BYTES: u64 = 12;
+
+const RECORD_NUMBERS: u64 = 6;
+
+const MOST_RECORDS: u64 = 4096;
+
+// An entry as it stands in the work area.
+pub struct Entry {
+    pub inner: bool,
+    pub size: u64,
+    pub duration: u64,
+    pub sap: u64,
+}
+
+// The indexes that still have an entry to come, or none.
+pub enum Still {
+    Open(Levels),
+    Closed,
+}
+
+fn wide(b: u8) -> u64
+    ensures { λ r. ⌜ (r ≡ b) × (r < 256) ⌝ }
+{
+    b as u64
+}
+
+// The number that four bytes spell, the first byte the highest.
+pub fn word_at(work: &[u8], i: usize) -> u64
+    requires { ⌜ i + 4 ≤ length (now work) ⌝ }
+    ensures { λ r. ⌜ r ≡ defs.wordAt (now (work .entry)) i ⌝ }
+{
+    let a = wide(work[i]);
+    let b = wide(work[i + 1]);
+    let c = wide(work[i + 2]);
+    let d = wide(work[i + 3]);
+    ((a * 256 + b) * 256 + c) * 256 + d
+}
+
+pub fn entry_at(work: &[u8], i: usize) -> Entry
+    requires { ⌜ i + 12 ≤ length (now work) ⌝ }
+    ensures { λ r. ⌜ entryOf r ≡ defs.entryAt (now (work .entry)) i ⌝ }
+{
+    let first = word_at(work, i);
+    let duration = word_at(work, i + 4);
+    let sap = word_at(work, i + 8);
+    Entry {
+        inner: TYPE_BIT <= first,
+        size: first % TYPE_BIT,
+        duration: duration,
+        sap: sap,
+    }
+}
+
+pub fn inmost(ls: Levels) -> Level
+    ensures { λ r. ⌜ r ≡ defs.inmost ls ⌝ }
+{
+    match ls {
+        Levels::One(a) => a,
+        Levels::Two(_, b) => b,
+        Levels::Three(_, _, c) => c,
+        Levels::Four(_, _, _, d) => d,
+    }
+}
+
+pub fn depth(ls: Levels) -> u64
+    ensures { λ r. ⌜ r ≡ defs.depth ls ⌝ }
+{
+    match ls {
+        Levels::One(_) => 1,
+        Levels::Two(_, _) => 2,
+        Levels::Three(_, _, _) => 3,
+        Levels::Four(_, _, _, _) => 4,
+    }
+}
+
+// Where the next entry of the innermost index is stored.
+pub fn entry_place(ls: Levels) -> u64
+    requires { ⌜ Within (levelsBounds ls) ⌝ }
+    ensures { λ r. ⌜ r ≡ defs.entryPlace ls ⌝ }
+{
+    let around = depth(ls) - 1;
+    let l = inmost(ls);
+    LEVEL_BYTES * around + ENTRY_BYTES * l.next
+}
+
+// The next entry of the innermost index, read back.
+pub fn next_entry(work: &[u8], ls: Levels) -> Entry
+    requires { ⌜ (workBytes ≤ length (now work)) × Within (levelsBounds ls) × (defs.inmost ls .next < defs.inmost ls .count) ⌝ }
+    ensures { λ r. ⌜ entryOf r ≡ defs.entryAt (now (work .entry)) (defs.entryPlace ls) ⌝ }
+{
+    let place = entry_place(ls) as usize;
+    entry_at(work, place)
+}
+
+fn took(l: Level) -> Level
+    requires { ⌜ l .next ≤ mostEntries ⌝ }
+    ensures { λ r. ⌜ r ≡ defs.took l ⌝ }
+{
+    Level {
+        next: l.next + 1,
+        count: l.count,
+        end: l.end,
+        until: l.until,
+    }
+}
+
+// The innermost index's next entry is taken.
+pub fn took_entry(ls: Levels) -> Levels
+    requires { ⌜ Within (levelsBounds ls) ⌝ }
+    ensures { λ r. ⌜ r ≡ defs.tookEntry ls ⌝ }
+{
+    match ls {
+        Levels::One(a) => Levels::One(took(a)),
+        Levels::Two(a, b) => Levels::Two(a, took(b)),
+        Levels::Three(a, b, c) => Levels::Three(a, b, took(c)),
+        Levels::Four(a, b, c, d) => Levels::Four(a, b, c, took(d)),
+    }
+}
+
+// One more index stands open; on level 5 there is none.
+pub fn push(ls: Levels, l: Level) -> Levels
+    ensures { λ r. ⌜ r ≡ defs.push ls l ⌝ }
+{
+    match ls {
+        Levels::One(a) => Levels::Two(a, l),
+        Levels::Two(a, b) => Levels::Three(a, b, l),
+        Levels::Three(a, b, c) => Levels::Four(a, b, c, l),
+        Levels::Four(a, b, c, d) => Levels::Four(a, b, c, d),
+    }
+}
+
+fn still_one(a: Level) -> Still
+    ensures { λ r. ⌜ openOf r ≡ defs.stillOne a ⌝ }
+{
+    if a.next == a.count {
+        return Still::Closed;
+    }
+    Still::Open(Levels::One(a))
+}
+
+fn still_two(a: Level, b: Level) -> Still
+    ensures { λ r. ⌜ openOf r ≡ defs.stillTwo a b ⌝ }
+{
+    if b.next == b.count {
+        return still_one(a);
+    }
+    Still::Open(Levels::Two(a, b))
+}
+
+fn still_three(a: Level, b: Level, c: Level) -> Still
+    ensures { λ r. ⌜ openOf r ≡ defs.stillThree a b c ⌝ }
+{
+    if c.next == c.count {
+        return still_two(a, b);
+    }
+    Still::Open(Levels::Three(a, b, c))
+}
+
+fn still_four(a: Level, b: Level, c: Level, d: Level) -> Still
+    ensures { λ r. ⌜ openOf r ≡ stillFour a b c d ⌝ }
+{
+    if d.next == d.count {
+        return still_three(a, b, c);
+    }
+    Still::Open(Levels::Four(a, b, c, d))
+}
+
+// The indexes that have no entry left are closed, from the innermost on.
+pub fn still_open(ls: Levels) -> Still
+    ensures { λ r. ⌜ openOf r ≡ defs.stillOpen ls ⌝ }
+{
+    match ls {
+        Levels::One(a) => still_one(a),
+        Levels::Two(a, b) => still_two(a, b),
+        Levels::Three(a, b, c) => still_three(a, b, c),
+        Levels::Four(a, b, c, d) => still_four(a, b, c, d),
+    }
+}
+
+// Whether two numbers add up to a third.
+fn sum_is(a: u64, b: u64, c: u64) -> bool
+    ensures { λ r. ⌜ r ≡ eqb (a + b) c ⌝ }
+{
+    if c < a {
+        return false;
+    }
+    c - a == b
+}
+
+// Whether the sum of two numbers is more than a third.
+fn sum_over(c: u64, a: u64, b: u64) -> bool
+    ensures { λ r. ⌜ r ≡ ltb c (a + b) ⌝ }
+{
+    if c < a {
+        return true;
+    }
+    c - a < b
+}
+
+// Whether the sum of two numbers is a third or more.
+fn sum_reaches(c: u64, a: u64, b: u64) -> bool
+    ensures { λ r. ⌜ r ≡ leb c (a + b) ⌝ }
+{
+    if c < a {
+        return true;
+    }
+    c - a <= b
+}
+
+// Whether an entry is all that remains of its index.
+fn fills(l: Level, e: Entry, at: u64, n: u64) -> bool
+    ensures { λ r. ⌜ r ≡ (eqb (n + e .size) (l .end) && eqb (at + e .duration) (l .until)) ⌝ }
+{
+    if sum_is(n, e.size, l.end) {
+        return sum_is(at, e.duration, l.until);
+    }
+    false
+}
+
+// Whether an entry read back at byte `n`, when the time line stands at `at`, cannot be what its index stored.
+pub fn altered(l: Level, e: Entry, at: u64, n: u64) -> bool
+    ensures { λ r. ⌜ r ≡ defs.altered l (entryOf e) at n ⌝ }
+{
+    if e.size == 0 {
+        return true;
+    }
+    if sum_over(l.until, at, e.duration) {
+        return true;
+    }
+    if sum_is(l.next, 1, l.count) {
+        return !fills(l, e, at, n);
+    }
+    sum_reaches(l.end, n, e.size)
+}
+
+// Where an entry stands, and when it ends.
+pub fn slot_of(e: Entry, at: u64, n: u64) -> Slot
+    requires { ⌜ (n + e .size < timeLimit) × (at + e .duration < timeLimit) ⌝ }
+    ensures { λ r. ⌜ r ≡ defs.slotOf (entryOf e) at n ⌝ }
+{
+    Slot {
+        pos: n,
+        end: n + e.size,
+        until: at + e.duration,
+        sap: e.sap,
+    }
+}
+
+// How many records a leaf table of this length takes.
+pub fn room(len: usize) -> u64
+    ensures { λ r. ⌜ ((table : List ℕ) → length table ≡ len → r ≡ flows.room table) ⌝ }
+{
+    let whole = (len / 6) as u64;
+    if MOST_RECORDS < whole {
+        return MOST_RECORDS;
+    }
+    whole
+}
+
+pub fn no_room(leaves: u64, len: usize) -> bool
+    ensures { λ r. ⌜ ((table : List ℕ) → length table ≡ len → r ≡ faults.noRoom leaves table) ⌝ }
+{
+    room(len) <= leaves
+}
+
+// A number put where the table has a place for it.
+fn put_at(table: &mut [u64], i: usize, x: u64)
+    ensures { λ _. ⌜ now (table .exit) ≡ set (now (table .entry)) i x ⌝ }
+{
+    if table.len() <= i {
+        return;
+    }
+    table[i] = x;
+}
+
+// What is left of `a` without `b`, and 0 where `b` is more.
+fn less(a: u64, b: u64) -> u64
+    ensures { λ r. ⌜ r ≡ a - b ⌝ }
+{
+    if a < b {
+        return 0;
+    }
+    a - b
+}
+
+// A leaf's record, after those of the `leaves` before it.
+pub fn put_row(table: &mut [u64], leaves: u64, slot: Slot, at: u64, first: u64)
+    requires { ⌜ leaves ≤ mostRecords ⌝ }
+    ensures { λ _. ⌜ now (table .exit) ≡ flows.putAll (now (table .entry)) (recordNumbers * leaves) (leafRow slot at first) ⌝ }
+{
+    let i = (RECORD_NUMBERS * leaves) as usize;
+    put_at(table, i, slot.pos);
+    put_at(table, i + 1, less(slot.end, slot.pos));
+    put_at(table, i + 2, at);
+    put_at(table, i + 3, less(slot.until, at));
+    put_at(table, i + 4, slot.sap);
+    put_at(table, i + 5, first);
+}

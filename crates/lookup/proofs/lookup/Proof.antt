@@ -1,0 +1,34 @@
+-- `lookup::lookup` meets its contract.
+use mathlib.Core.Path.{sym, _∙_}
+use Rattle.basics.proofs.Picks.{pick-yes, pick-no}
+use Rattle.state.specs.Ranges.{inRange}
+use Rattle.lookup.specs.Lookup.{lookupOf}
+use borrow.Author.Needs.{needs}
+use Rattle.lookup.proofs.lookup.Statement.{statement}
+use Rattle.lookup.proofs.lookup.Tie as tie
+
+in-range-requires : tie.Need-in-range-requires
+in-range-requires c κs = search needs
+
+look-up-state-requires : tie.Need-look-up-state-requires
+look-up-state-requires c κs = search needs
+
+returns : tie.Need-returns
+unfolding lookupOf
+returns c =
+    c .look-up-state .ensures
+    ∙ sym (pick-yes (inRange (c .before .before .before .before .args .s)) _ _ (sym (c .before .before .in-range .ensures) ∙ c .before .if1 .taken))
+
+refused-requires : tie.Need-refused-requires
+refused-requires c κs = search needs
+
+returns-2 : tie.Need-returns-2
+unfolding lookupOf
+returns-2 c =
+    c .refused .ensures
+    ∙ sym (pick-no (inRange (c .before .before .before .before .args .s)) _ _ (sym (c .before .before .in-range .ensures) ∙ c .before .if1 .left))
+
+pub lookup-spec : {M : Type 1} → statement M
+lookup-spec =
+    tie.close
+    (tie.spec in-range-requires look-up-state-requires returns refused-requires returns-2)

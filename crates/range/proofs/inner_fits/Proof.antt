@@ -1,0 +1,61 @@
+-- `range::inner_fits` meets its contract.
+use Prim.Native.Nat.{ℕ}
+use mathlib.Core.Path.{sym, ap, _∙_}
+use mathlib.Core.List.{[], _∷_}
+use Rattle.state.specs.Ranges.{below, within, innerBounds}
+use Rattle.range.proofs.Joined.{joined}
+use Rattle.state.specs.declared.InnerBox.{InnerBox}
+use borrow.Author.Needs.{needs}
+use Rattle.range.proofs.inner_fits.Statement.{statement}
+use Rattle.range.proofs.inner_fits.Tie as tie
+
+enum-known-b : tie.Need-enum-known-b
+enum-known-b c = search needs
+
+head-fits-requires : tie.Need-head-fits-requires
+head-fits-requires c κs = search needs
+
+enum-known-b-2 : tie.Need-enum-known-b-2
+enum-known-b-2 c = search needs
+
+open-count-requires : tie.Need-open-count-requires
+open-count-requires c κs = search needs
+
+less-requires : tie.Need-less-requires
+less-requires c κs = search needs
+
+sidx-fits-requires : tie.Need-sidx-fits-requires
+sidx-fits-requires c κs = search needs
+
+both-requires : tie.Need-both-requires
+both-requires c κs = search needs
+
+returns : tie.Need-returns
+unfolding innerBounds
+returns c =
+    c .head-fits .ensures
+    ∙ sym (ap (λ (q : InnerBox). within (innerBounds (c .before .before .before .before .args .ls) q)) (c .before .before .b .given .1))
+
+returns-2 : tie.Need-returns-2
+unfolding innerBounds
+returns-2 c =
+    joined _ _
+    (c .before .before .less .ensures ∙ ap (λ (d : ℕ). within (below d 4 ∷ [])) (c .before .before .before .open-count .ensures))
+    (c .before .sidx-fits .ensures) (c .both .ensures)
+    ∙ sym
+    (ap (λ (q : InnerBox). within (innerBounds (c .before .before .before .before .before .before .before .args .ls) q))
+    (c .before .before .before .before .before .b2 .given .1))
+
+pub inner-fits-spec : {M : Type 1} → statement M
+inner-fits-spec =
+    tie.close
+    (tie.spec
+    enum-known-b
+    head-fits-requires
+    enum-known-b-2
+    open-count-requires
+    less-requires
+    sidx-fits-requires
+    both-requires
+    returns
+    returns-2)

@@ -1,0 +1,28 @@
+-- `range::spelling_fits` meets its contract.
+use Prim.Native.Nat.{ℕ}
+use mathlib.Core.Path.{ap, _∙_}
+use mathlib.Core.List.{[], _∷_}
+use native.Mathlib.Omega.{arith}
+use Rattle.state.specs.Ranges.{below, within}
+use Rattle.range.proofs.Joined.{first-holds, first-fails}
+use borrow.Author.Needs.{needs}
+use Rattle.range.proofs.spelling_fits.Statement.{statement}
+use Rattle.range.proofs.spelling_fits.Tie as tie
+
+returns : tie.Need-returns
+returns c = first-fails (c .before .args .more) (c .before .args .most) _ (omega arith)
+
+power-requires : tie.Need-power-requires
+power-requires c κs = search needs
+
+less-requires : tie.Need-less-requires
+less-requires c κs = search needs
+
+returns-2 : tie.Need-returns-2
+returns-2 c =
+    c .less .ensures
+    ∙ ap (λ (p : ℕ). within (below (c .before .before .before .args .acc) p ∷ [])) (c .before .power .ensures)
+    ∙ first-holds (c .before .before .before .args .more) (c .before .before .before .args .most) _ (omega arith)
+
+pub spelling-fits-spec : {M : Type 1} → statement M
+spelling-fits-spec = tie.close (tie.spec returns power-requires less-requires returns-2)

@@ -1,0 +1,48 @@
+use Prim.Native.Nat.{ℕ}
+use mathlib.Core.Path.{ap, sym, _∙_}
+use native.Mathlib.Omega.{arith}
+use Rattle.machine.specs.Faults.{refusal, lowest}
+use Rattle.machine.specs.Run.{bad}
+use Rattle.machine.specs.declared.Refusal.{Refusal}
+use Rattle.state.specs.Flow.{left}
+use Rattle.state.specs.declared.Track.the-variants as track
+use Rattle.track.specs.Track.{besideTraf, afterBody}
+use Rattle.track.proofs.Laws.{all-right, header-bad, header-good}
+use borrow.Author.Needs.{needs}
+use Rattle.track.proofs.after_header.Statement.{statement}
+use Rattle.track.proofs.after_header.Tie as tie
+
+-- src/lib.rt:423:9
+box-flaw-requires : tie.Need-box-flaw-requires
+box-flaw-requires c κs = search needs
+
+-- src/lib.rt:429:31
+worse-requires : tie.Need-worse-requires
+worse-requires c κs = search needs
+
+-- src/lib.rt:429:9
+returns : tie.Need-returns
+returns c = λ id f. ap (λ (x : Refusal). bad x (left f)) (c .worse .ensures) ∙ ap (λ (m : ℕ). bad (lowest (refusal m (c .before .before .before .args .h .pos)) (besideTraf (c .before .before .before .args .span) (c .before .before .before .args .so .track) (c .before .before .before .args .n))) (left f)) (c .before .before .box-flaw .ensures) ∙ sym (header-bad id (c .before .before .before .args .span) (c .before .before .before .args .so) (c .before .before .before .args .n) (c .before .before .before .args .h) f (λ e. c .before .if1 .taken (c .before .before .box-flaw .ensures ∙ e)))
+
+-- src/lib.rt:431:26
+body-begin-requires : tie.Need-body-begin-requires
+body-begin-requires c κs = omega (arith, all-right (c .before .before .args .so .track) (c .before .before .args .h) (c .before .before .args .span .end) (sym (c .before .box-flaw .ensures) ∙ c .if1 .left))
+
+-- src/lib.rt:431:5
+after-body-requires : tie.Need-after-body-requires
+after-body-requires c κs = search needs
+
+-- src/lib.rt:418:1
+returns-2 : tie.Need-returns-2
+returns-2 c = λ id f. c .after-body .ensures id f ∙ ap (afterBody id (c .before .before .before .before .args .span) (c .before .before .before .before .args .so) (c .before .before .before .before .args .n)) (c .before .body-begin .ensures f) ∙ sym (header-good id (c .before .before .before .before .args .span) (c .before .before .before .before .args .so) (c .before .before .before .before .args .n) (c .before .before .before .before .args .h) f (sym (c .before .before .before .box-flaw .ensures) ∙ c .before .before .if1 .left))
+
+pub after-header-spec : {M : Type 1} → statement M
+after-header-spec =
+    tie.close
+    (tie.spec
+    box-flaw-requires
+    worse-requires
+    returns
+    body-begin-requires
+    after-body-requires
+    returns-2)

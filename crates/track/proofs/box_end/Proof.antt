@@ -1,0 +1,60 @@
+use mathlib.Core.Path.{ap, sym, _∙_}
+use Rattle.machine.specs.Lists.{goOn}
+use Rattle.state.specs.Traf.{trafNow, fallFaults, trafNext, trafBoxes, wrapTraf}
+use Rattle.track.specs.Track.{gaveOf}
+use Rattle.track.specs.declared.Given.{Given}
+use borrow.Author.Needs.{needs}
+use Rattle.track.proofs.box_end.Statement.{statement}
+use Rattle.track.proofs.box_end.Tie as tie
+
+-- src/lib.rt:382:27
+enum-told : tie.Need-enum-told
+enum-told c = search needs
+
+-- src/lib.rt:382:27
+go-on-requires : tie.Need-go-on-requires
+go-on-requires c κs = search needs
+
+-- src/lib.rt:383:23
+enum-known-g : tie.Need-enum-known-g
+enum-known-g c = search needs
+
+-- src/lib.rt:386:13
+go-on-requires-2 : tie.Need-go-on-requires-2
+go-on-requires-2 c κs = search needs
+
+-- src/lib.rt:388:22
+enum-known-g-2 : tie.Need-enum-known-g-2
+enum-known-g-2 c = search needs
+
+-- src/lib.rt:388:44
+time-end-requires : tie.Need-time-end-requires
+time-end-requires c κs = search needs
+
+-- src/lib.rt:378:1
+returns : tie.Need-returns
+unfolding trafNow fallFaults
+returns c = λ id f. c .go-on .ensures id f ∙ sym (ap (λ (g : Given). goOn (trafBoxes id (c .before .before .before .args .span)) wrapTraf (trafNext (c .before .before .before .args .span) (trafNow (c .before .before .before .args .so) (gaveOf g)) (fallFaults (c .before .before .before .args .so .seen .last) (gaveOf g)) (c .before .before .before .args .n)) f) (c .before .enum-told .given .1))
+
+-- src/lib.rt:378:1
+returns-2 : tie.Need-returns-2
+unfolding trafNow fallFaults
+returns-2 c = λ id f. c .go-on2 .ensures id f ∙ sym (ap (λ (g : Given). goOn (trafBoxes id (c .before .before .before .before .before .args .span)) wrapTraf (trafNext (c .before .before .before .before .before .args .span) (trafNow (c .before .before .before .before .before .args .so) (gaveOf g)) (fallFaults (c .before .before .before .before .before .args .so .seen .last) (gaveOf g)) (c .before .before .before .before .before .args .n)) f) (c .before .before .before .g .given .1))
+
+-- src/lib.rt:378:1
+returns-3 : tie.Need-returns-3
+returns-3 c = λ id f. c .time-end .ensures id f ∙ sym (ap (λ (g : Given). goOn (trafBoxes id (c .before .before .before .before .args .span)) wrapTraf (trafNext (c .before .before .before .before .args .span) (trafNow (c .before .before .before .before .args .so) (gaveOf g)) (fallFaults (c .before .before .before .before .args .so .seen .last) (gaveOf g)) (c .before .before .before .before .args .n)) f) (c .before .before .g2 .given .1))
+
+pub box-end-spec : {M : Type 1} → statement M
+box-end-spec =
+    tie.close
+    (tie.spec
+    enum-told
+    go-on-requires
+    enum-known-g
+    go-on-requires-2
+    enum-known-g-2
+    time-end-requires
+    returns
+    returns-2
+    returns-3)

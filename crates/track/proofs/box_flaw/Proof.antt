@@ -1,0 +1,27 @@
+use mathlib.Core.Path.{sym, _∙_}
+use borrow.Author.Tests.{eq-eqb, ne-eqb}
+use Rattle.basics.proofs.Picks.{pick-yes, pick-no}
+use Rattle.state.specs.Flow.{left}
+use Rattle.track.proofs.Laws.{sizes-first, sizes-right}
+use borrow.Author.Needs.{needs}
+use Rattle.track.proofs.box_flaw.Statement.{statement}
+use Rattle.track.proofs.box_flaw.Tie as tie
+
+-- src/lib.rt:410:9
+size-flaw-requires : tie.Need-size-flaw-requires
+size-flaw-requires c κs = search needs
+
+-- src/lib.rt:412:9
+returns : tie.Need-returns
+returns c = c .before .size-flaw .ensures ∙ sym (sizes-first (c .before .before .args .t) (c .before .before .args .h) (c .before .before .args .end) ∙ pick-no _ _ _ (ne-eqb _ _ (λ e. c .if1 .taken (c .before .size-flaw .ensures ∙ e))))
+
+-- src/lib.rt:414:5
+traf-flaw-requires : tie.Need-traf-flaw-requires
+traf-flaw-requires c κs = sizes-right (c .before .before .args .end) (c .before .before .args .h) (sym (c .before .size-flaw .ensures) ∙ c .if1 .left)
+
+-- src/lib.rt:407:1
+returns-2 : tie.Need-returns-2
+returns-2 c = c .traf-flaw .ensures ∙ sym (sizes-first (c .before .before .before .args .t) (c .before .before .before .args .h) (c .before .before .before .args .end) ∙ pick-yes _ _ _ (eq-eqb _ _ (sym (c .before .before .size-flaw .ensures) ∙ c .before .if1 .left)))
+
+pub box-flaw-spec : {M : Type 1} → statement M
+box-flaw-spec = tie.close (tie.spec size-flaw-requires returns traf-flaw-requires returns-2)

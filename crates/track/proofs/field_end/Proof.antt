@@ -1,0 +1,90 @@
+use Prim.Native.Nat.{ℕ}
+use mathlib.Core.Path.{ap, sym, _∙_}
+use mathlib.Core.Bool.{Bool}
+use Rattle.machine.specs.Run.{go, done}
+use Rattle.state.specs.Traf.{timed, trafEnds}
+use Rattle.state.specs.declared.TrafPart.{TrafPart}
+use Rattle.state.specs.declared.TrafPart.the-variants as part
+use Rattle.state.specs.declared.TrafBody.the-variants as body
+use Rattle.track.proofs.Laws.{time-flags}
+use borrow.Author.Needs.{needs}
+use Rattle.track.proofs.field_end.Statement.{statement}
+use Rattle.track.proofs.field_end.Tie as tie
+
+-- src/lib.rt:148:31
+enum-known-p : tie.Need-enum-known-p
+enum-known-p c = search needs
+
+-- src/lib.rt:156:29
+enum-known-p-2 : tie.Need-enum-known-p-2
+enum-known-p-2 c = search needs
+
+-- src/lib.rt:156:38
+rest-to-requires : tie.Need-rest-to-requires
+rest-to-requires c κs = search needs
+
+-- src/lib.rt:157:29
+enum-known-p-3 : tie.Need-enum-known-p-3
+enum-known-p-3 c = search needs
+
+-- src/lib.rt:157:43
+version-end-requires : tie.Need-version-end-requires
+version-end-requires c κs = search needs
+
+-- src/lib.rt:158:31
+enum-known-p-4 : tie.Need-enum-known-p-4
+enum-known-p-4 c = search needs
+
+-- src/lib.rt:162:23
+time-more-requires : tie.Need-time-more-requires
+time-more-requires c κs = search needs
+
+-- src/lib.rt:166:26
+enum-known-p-5 : tie.Need-enum-known-p-5
+enum-known-p-5 c = search needs
+
+-- src/lib.rt:166:63
+is-reference-requires : tie.Need-is-reference-requires
+is-reference-requires c κs = search needs
+
+-- src/lib.rt:143:1
+returns : tie.Need-returns
+unfolding trafEnds
+returns c = λ f. sym (ap (λ (q : TrafPart). trafEnds (c .before .before .before .args .id) (c .before .before .before .args .t) q (c .before .before .before .args .v) f (c .before .before .before .args .n)) (c .before .p .given .1))
+
+-- src/lib.rt:143:1
+returns-2 : tie.Need-returns-2
+unfolding trafEnds
+returns-2 c = λ f. c .rest-to .ensures f ∙ sym (ap (λ (q : TrafPart). trafEnds (c .before .before .before .before .args .id) (c .before .before .before .before .args .t) q (c .before .before .before .before .args .v) f (c .before .before .before .before .args .n)) (c .before .before .p2 .given .1))
+
+-- src/lib.rt:143:1
+returns-3 : tie.Need-returns-3
+returns-3 c = λ f. c .version-end .ensures (c .before .before .before .before .args .id) (c .before .before .before .before .args .t) f ∙ sym (ap (λ (q : TrafPart). trafEnds (c .before .before .before .before .args .id) (c .before .before .before .before .args .t) q (c .before .before .before .before .args .v) f (c .before .before .before .before .args .n)) (c .before .before .p3 .given .1))
+
+-- src/lib.rt:143:1
+returns-4 : tie.Need-returns-4
+returns-4 c = λ f. ap (λ (m : ℕ). go (body.Field (part.Time (c .before .before .p4 .given .0 .0)) m 0) f) (c .time-more .ensures) ∙ sym (time-flags (c .before .before .before .before .args .id) (c .before .before .before .before .args .t) (c .before .before .p4 .given .0 .0) (c .before .before .p4 .given .0 .1 .0) (c .before .before .before .before .args .v) f (c .before .before .before .before .args .n)) ∙ sym (ap (λ (q : TrafPart). trafEnds (c .before .before .before .before .args .id) (c .before .before .before .before .args .t) q (c .before .before .before .before .args .v) f (c .before .before .before .before .args .n)) (c .before .before .p4 .given .1))
+
+-- src/lib.rt:143:1
+returns-5 : tie.Need-returns-5
+unfolding trafEnds
+returns-5 c = λ f. ap (λ (r : Bool). done (timed r (c .before .before .p5 .given .0 .0) (c .before .before .before .before .args .v)) f) (c .is-reference .ensures) ∙ sym (ap (λ (q : TrafPart). trafEnds (c .before .before .before .before .args .id) (c .before .before .before .before .args .t) q (c .before .before .before .before .args .v) f (c .before .before .before .before .args .n)) (c .before .before .p5 .given .1))
+
+pub field-end-spec : {M : Type 1} → statement M
+field-end-spec =
+    tie.close
+    (tie.spec
+    enum-known-p
+    enum-known-p-2
+    rest-to-requires
+    enum-known-p-3
+    version-end-requires
+    enum-known-p-4
+    time-more-requires
+    enum-known-p-5
+    is-reference-requires
+    returns
+    returns-2
+    returns-3
+    returns-4
+    returns-5)

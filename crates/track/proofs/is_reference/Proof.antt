@@ -1,0 +1,36 @@
+use mathlib.Core.Path.{ap, sym}
+use Rattle.state.specs.Traf.{reference}
+use borrow.Author.Needs.{needs}
+use Rattle.track.proofs.is_reference.Statement.{statement}
+use Rattle.track.proofs.is_reference.Tie as tie
+
+-- src/lib.rt:136:25
+enum-told : tie.Need-enum-told
+enum-told c = search needs
+
+-- src/lib.rt:137:25
+enum-known-t : tie.Need-enum-known-t
+enum-known-t c = search needs
+
+-- src/lib.rt:138:25
+enum-told-2 : tie.Need-enum-told-2
+enum-told-2 c = search needs
+
+-- src/lib.rt:132:1
+returns : tie.Need-returns
+unfolding reference
+returns c = sym (ap reference (c .enum-told .given .1))
+
+-- src/lib.rt:132:1
+returns-2 : tie.Need-returns-2
+unfolding reference
+returns-2 c = sym (ap reference (c .before .t .given .1))
+
+-- src/lib.rt:132:1
+returns-3 : tie.Need-returns-3
+unfolding reference
+returns-3 c = sym (ap reference (c .enum-told2 .given .1))
+
+pub is-reference-spec : {M : Type 1} → statement M
+is-reference-spec =
+    tie.close (tie.spec enum-told enum-known-t enum-told-2 returns returns-2 returns-3)
