@@ -1,8 +1,8 @@
 -- The contract of `lookup` itself, as the check reads it: it asks nothing, and two outcomes that it allows coincide.
-use mathlib.Core.Path.{_≡_, sym, _∙_}
+use mathlib.Core.Path.{_≡_, refl, sym, _∙_}
 use contract.Lifetimes.{Lfts}
 use borrow.Fn.Kinds.{Dens, endedOf}
-use denote.Triple.Clauses.{AtExit}
+use denote.Triple.Clauses.{Lasts, AtExit, atExit}
 use Rattle.lookup.specs.declared.LookupAnswer.{LookupAnswer}
 use Rattle.lookup.proofs.lookup.Kinds as kinds
 use Rattle.lookup.proofs.lookup.Reads as stated
@@ -11,7 +11,11 @@ use Rattle.lookup.proofs.lookup.Reads as stated
 pub asks-nothing : (κs : Lfts 1) (given : Dens κs kinds.ps) → stated.Pre κs given
 asks-nothing κs given = tt
 
--- of one state, table and time the contract allows one answer only
-pub outcomes-coincide : (κs : Lfts 1) (given : Dens κs kinds.ps) (r r' : LookupAnswer) (after after' : AtExit (endedOf 1 kinds.ps kinds.r) κs) →
-    stated.Post κs given r after → stated.Post κs given r' after' → r ≡ r'
-outcomes-coincide κs given r r' after after' p q = p ∙ sym q
+-- state, table and time as they are after the call
+abbrev after : (κs : Lfts 1) (given : Dens κs kinds.ps) → Lasts (endedOf 1 kinds.ps kinds.r) κs given → AtExit (endedOf 1 kinds.ps kinds.r) κs
+after κs given left = atExit (endedOf 1 kinds.ps kinds.r) κs given left
+
+-- of one state, table and time the contract allows one outcome only: one answer, and one state of what was lent
+pub outcomes-coincide : (κs : Lfts 1) (given : Dens κs kinds.ps) (r r' : LookupAnswer) (left left' : Lasts (endedOf 1 kinds.ps kinds.r) κs given) →
+    stated.Post κs given r (after κs given left) → stated.Post κs given r' (after κs given left') → (r ≡ r') × (after κs given left ≡ after κs given left')
+outcomes-coincide κs given r r' left left' p q = (p ∙ sym q, refl)

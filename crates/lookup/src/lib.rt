@@ -10,23 +10,28 @@ ghost use Rattle.lookup.specs.Lookup.{recordAt, covers, outside, lookIn,
 use machine::Refusal;
 use state::State;
 
-// The numbers of a leaf's record, and the places among them of its start and its duration.
+// How many numbers a leaf's record has.
 const NUMBERS: usize = 6;
 
+// Where among them its start stands.
 const START: usize = 2;
 
+// Where among them its duration stands.
 const DURATION: usize = 3;
 
-// The refusals of a lookup, by document 01's table: state out of range, no accepted finish, before the first leaf, past the list, a
-// table shorter than the list.
+// Refused: a number of the state is out of its range.
 const OUT_OF_RANGE: u64 = 2;
 
+// Refused: the segment has no accepted finish.
 const NOT_FINISHED: u64 = 22;
 
+// Refused: the time is before the first leaf.
 const BEFORE: u64 = 23;
 
+// Refused: the time is in no leaf, and not before the first.
 const PAST: u64 = 24;
 
+// Refused: the table is shorter than the list.
 const SHORT_TABLE: u64 = 25;
 
 // The six numbers of a leaf, as they stand in the leaf table.
@@ -45,7 +50,7 @@ pub enum LookupAnswer {
     Refused(Refusal),
 }
 
-// A lookup reads nothing, so it refuses at place 0.
+// A lookup reads no byte of the segment: it refuses at place 0.
 fn refused(number: u64) -> LookupAnswer
     ensures { λ r. ⌜ r ≡ LookupAnswer.Refused (refusal number 0) ⌝ }
 {

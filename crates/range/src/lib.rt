@@ -2,12 +2,15 @@
 ghost use mathlib.Core.Path.{_≡_};
 ghost use mathlib.Core.Bool.{_&&_};
 ghost use mathlib.Core.List.{[], _∷_, _++_};
-ghost use Prim.Native.Nat.{_+_, _^_, _≤_, _<_};
+ghost use Prim.Native.Nat.{_+_, _^_, _<_};
 ghost use Rattle.segment.specs.Constants.{timeLimit, mostRecords};
 ghost use Rattle.state.specs.Levels.{depth, inmost};
 ghost use Rattle.state.specs.Sidx.{wideMore};
 ghost use Rattle.state.specs.declared.Levels.{Levels};
-ghost use Rattle.state.specs.Ranges.{atMost, below, within, spelled, headBounds, trafMost, trafBodyBounds, trafBounds, moofBodyBounds, moofBounds, leafBodyBounds, leafBounds, indexMost, scaleLeast, draftBounds, sized, lasted, sumsBounds, sidxBounds, openingBodyBounds, openingBounds, gapBounds, topBounds, levelBounds, levelsBounds, slotBounds, innerBounds, stageBounds, inRange};
+ghost use Rattle.state.specs.Ranges.{atMost, below, within, spelled, headBounds, trafMost, trafBodyBounds, trafBounds, moofBodyBounds};
+ghost use Rattle.state.specs.Ranges.{moofBounds, leafBodyBounds, leafBounds, indexMost, scaleLeast, draftBounds, sized, lasted, sumsBounds};
+ghost use Rattle.state.specs.Ranges.{sidxBounds, openingBodyBounds, openingBounds, gapBounds, topBounds, levelBounds, levelsBounds};
+ghost use Rattle.state.specs.Ranges.{slotBounds, innerBounds, stageBounds, inRange};
 use machine::Head;
 use machine::Refusal;
 use state::Draft;
@@ -33,18 +36,22 @@ use state::TrafBody;
 use state::TrafBoxes;
 use state::TrafPart;
 
-// The most bytes a segment has, the most leaves listed, the most entries of an index.
+// The most bytes a segment has.
 const LIMIT: u64 = 268435456;
 
+// The most leaves listed.
 const RECORDS: u64 = 4096;
 
+// The most entries of an index.
 const ENTRIES: u64 = 1024;
 
-// Numbers of 31 and of 32 bits are below these, and the highest of 64 bits.
+// Sizes of entries, of 31 bits, are below this.
 const TYPE_BIT: u64 = 2147483648;
 
+// Numbers of 32 bits are below this.
 const WORD: u64 = 4294967296;
 
+// The highest number of 64 bits.
 const HIGHEST: u64 = 18446744073709551615;
 
 fn both(a: bool, b: bool) -> bool

@@ -30,7 +30,9 @@ returns-8 : tie.Need-returns-8
 returns-8 c =
     sym
     (ap (λ (k : ℕ). 256 ^ k)
-    (seven (c .before .args .k) (c .before .pre) (c .match .rest .0 .0 .0 .0 .0 .0 .1) (c .match .rest .0 .0 .0 .0 .0 .1) (c .match .rest .0 .0 .0 .0 .1) (c .match .rest .0 .0 .0 .1) (c .match .rest .0 .0 .1) (c .match .rest .0 .1) (c .match .rest .1)))
+    (seven (c .before .args .k) (c .before .pre)
+    (c .match .rest .0 .0 .0 .0 .0 .0 .1) (c .match .rest .0 .0 .0 .0 .0 .1) (c .match .rest .0 .0 .0 .0 .1) (c .match .rest .0 .0 .0 .1)
+    (c .match .rest .0 .0 .1) (c .match .rest .0 .1) (c .match .rest .1)))
 
 pub power-spec : {M : Type 1} → statement M
 power-spec =
