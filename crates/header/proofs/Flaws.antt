@@ -135,7 +135,9 @@ lengths-placed h =
     (each-shows (Placed (h .pos)) (sidxOff h) 6 (h .pos) (refl, omega arith))
 
 pub size-placed : (end : ℕ) (h : Header) → Each (Placed (h .pos)) (sizeFaults end h)
-size-placed end h = each-append (Placed (h .pos)) _ _ (each-shows (Placed (h .pos)) (ltb (h .size) (h .head)) 4 (h .pos) (refl, omega arith)) (each-shows (Placed (h .pos)) (ltb end (h .pos + h .size)) 5 (h .pos) (refl, omega arith))
+size-placed end h =
+    each-append (Placed (h .pos)) _ _ (each-shows (Placed (h .pos)) (ltb (h .size) (h .head)) 4 (h .pos) (refl, omega arith))
+    (each-shows (Placed (h .pos)) (ltb end (h .pos + h .size)) 5 (h .pos) (refl, omega arith))
 
 -- what the size of a header shows
 module _ (end : ℕ) (h : Header) where

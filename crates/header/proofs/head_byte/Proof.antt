@@ -1,9 +1,7 @@
 use Prim.Native.Nat.{_-_}
-use mathlib.Core.Path.{ap, sym, subst, _∙_}
+use mathlib.Core.Path.{subst}
 use native.Mathlib.Omega.{arith}
-use Rattle.machine.specs.Heads.{stepHead}
 use Rattle.machine.specs.declared.Head.{Head}
-use Rattle.state.specs.Flow.{left}
 use Rattle.state.specs.Ranges.{Within, headBounds}
 use Rattle.header.proofs.Steps.{spelled-small}
 use borrow.Author.Needs.{needs}
@@ -21,33 +19,36 @@ enum-known-h c = search needs
 
 size-byte-requires : tie.Need-size-byte-requires
 unfolding headBounds
-size-byte-requires c κs = let w = subst (λ (q : Head). Within (headBounds q)) (c .before .h .given .1) (c .before .before .before .pre .0) in spelled-small 3 _ _ (omega arith) (w .1)
+size-byte-requires c κs = let w = subst (λ (q : Head). Within (headBounds q)) (c .before .h .given .1) (c .before .before .before .pre .0) in
+    spelled-small 3 _ _ (omega arith) (w .1)
 
 enum-known-h-2 : tie.Need-enum-known-h-2
 enum-known-h-2 c = search needs
 
 kind-byte-requires : tie.Need-kind-byte-requires
 unfolding headBounds
-kind-byte-requires c κs = let w = subst (λ (q : Head). Within (headBounds q)) (c .before .h2 .given .1) (c .before .before .before .pre .0) in (w .0, spelled-small 3 _ _ (omega arith) (w .1))
+kind-byte-requires c κs = let w = subst (λ (q : Head). Within (headBounds q)) (c .before .h2 .given .1) (c .before .before .before .pre .0) in
+    (w .0, spelled-small 3 _ _ (omega arith) (w .1))
 
 enum-known-h-3 : tie.Need-enum-known-h-3
 enum-known-h-3 c = search needs
 
 large-byte-requires : tie.Need-large-byte-requires
 unfolding headBounds
-large-byte-requires c κs = let w = subst (λ (q : Head). Within (headBounds q)) (c .before .h3 .given .1) (c .before .before .before .pre .0) in spelled-small 7 _ _ (omega arith) (w .1)
+large-byte-requires c κs = let w = subst (λ (q : Head). Within (headBounds q)) (c .before .h3 .given .1) (c .before .before .before .pre .0) in
+    spelled-small 7 _ _ (omega arith) (w .1)
 
 returns : tie.Need-returns
-returns c = λ f. c .first-byte .ensures f ∙ sym (ap (λ (q : Head). stepHead left (c .before .before .before .args .end) q f (c .before .before .before .args .n) (c .before .before .before .args .b)) (c .before .enum-told .given .1))
+returns c = λ f. rw (c .before .enum-told .given .1) (c .first-byte .ensures f)
 
 returns-2 : tie.Need-returns-2
-returns-2 c = λ f. c .size-byte .ensures f ∙ sym (ap (λ (q : Head). stepHead left (c .before .before .before .before .args .end) q f (c .before .before .before .before .args .n) (c .before .before .before .before .args .b)) (c .before .before .h .given .1))
+returns-2 c = λ f. rw (c .before .before .h .given .1) (c .size-byte .ensures f)
 
 returns-3 : tie.Need-returns-3
-returns-3 c = λ f. c .kind-byte .ensures f ∙ sym (ap (λ (q : Head). stepHead left (c .before .before .before .before .args .end) q f (c .before .before .before .before .args .n) (c .before .before .before .before .args .b)) (c .before .before .h2 .given .1))
+returns-3 c = λ f. rw (c .before .before .h2 .given .1) (c .kind-byte .ensures f)
 
 returns-4 : tie.Need-returns-4
-returns-4 c = λ f. c .large-byte .ensures f ∙ sym (ap (λ (q : Head). stepHead left (c .before .before .before .before .args .end) q f (c .before .before .before .before .args .n) (c .before .before .before .before .args .b)) (c .before .before .h3 .given .1))
+returns-4 c = λ f. rw (c .before .before .h3 .given .1) (c .large-byte .ensures f)
 
 pub head-byte-spec : {M : Type 1} → statement M
 head-byte-spec =

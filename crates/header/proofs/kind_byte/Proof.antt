@@ -1,8 +1,5 @@
-use Prim.Native.Nat.{ℕ, _-_}
-use mathlib.Core.Path.{ap, sym, _∙_}
-use Rattle.machine.specs.Run.{go}
-use Rattle.machine.specs.Heads.{sized}
-use Rattle.machine.specs.declared.Head.the-variants as at
+use Prim.Native.Nat.{_-_}
+use mathlib.Core.Path.{sym, _∙_}
 use Rattle.state.specs.Flow.{left}
 use Rattle.header.proofs.Steps.{kind-last, kind-more}
 use borrow.Author.Needs.{needs}
@@ -16,13 +13,13 @@ sized-by-requires : tie.Need-sized-by-requires
 sized-by-requires c κs = search needs
 
 returns : tie.Need-returns
-returns c = λ f. c .sized-by .ensures f ∙ ap (λ (v : ℕ). sized left (c .before .before .before .args .end) (c .before .before .before .args .pos) (c .before .before .before .args .size) v f) (c .before .before .spelled .ensures) ∙ sym (kind-last _ f _ _ _ _ _ _ (c .before .if1 .taken))
+returns c = λ f. c .sized-by .ensures f ∙ rw (c .before .before .spelled .ensures) (sym (kind-last _ f _ _ _ _ _ _ (c .before .if1 .taken)))
 
 sub-t10 : tie.Need-sub-t10
 sub-t10 c = search needs
 
 returns-2 : tie.Need-returns-2
-returns-2 c = λ f. ap (λ (v : ℕ). go (at.Kind (c .before .before .args .pos) (c .before .before .args .size) (c .before .before .args .more - 1) v) f) (c .before .spelled .ensures) ∙ sym (kind-more _ f _ _ _ _ _ _ (c .if1 .left))
+returns-2 c = λ f. rw (c .before .spelled .ensures) (sym (kind-more _ f _ _ _ _ _ _ (c .if1 .left)))
 
 pub kind-byte-spec : {M : Type 1} → statement M
 kind-byte-spec = tie.close (tie.spec spelled-requires sized-by-requires returns sub-t10 returns-2)

@@ -1,8 +1,5 @@
-use Prim.Native.Nat.{ℕ, _-_}
-use mathlib.Core.Path.{ap, sym, _∙_}
-use Rattle.machine.specs.Run.{go, done}
-use Rattle.machine.specs.Heads.{header}
-use Rattle.machine.specs.declared.Head.the-variants as at
+use Prim.Native.Nat.{_-_}
+use mathlib.Core.Path.{sym}
 use Rattle.header.proofs.Steps.{large-last, large-more}
 use borrow.Author.Needs.{needs}
 use Rattle.header.proofs.large_byte.Statement.{statement}
@@ -12,13 +9,13 @@ spelled-requires : tie.Need-spelled-requires
 spelled-requires c κs = search needs
 
 returns : tie.Need-returns
-returns c = λ f. ap (λ (v : ℕ). done (header (c .before .before .args .pos) (c .before .before .args .kind) v 16) f) (c .before .spelled .ensures) ∙ sym (large-last _ f _ _ _ _ _ _ (c .if1 .taken))
+returns c = λ f. rw (c .before .spelled .ensures) (sym (large-last _ f _ _ _ _ _ _ (c .if1 .taken)))
 
 sub-t11 : tie.Need-sub-t11
 sub-t11 c = search needs
 
 returns-2 : tie.Need-returns-2
-returns-2 c = λ f. ap (λ (v : ℕ). go (at.Large (c .before .before .args .pos) (c .before .before .args .kind) (c .before .before .args .more - 1) v) f) (c .before .spelled .ensures) ∙ sym (large-more _ f _ _ _ _ _ _ (c .if1 .left))
+returns-2 c = λ f. rw (c .before .spelled .ensures) (sym (large-more _ f _ _ _ _ _ _ (c .if1 .left)))
 
 pub large-byte-spec : {M : Type 1} → statement M
 large-byte-spec = tie.close (tie.spec spelled-requires returns sub-t11 returns-2)

@@ -13,10 +13,14 @@ returns : tie.Need-returns
 returns c = sym (styp-short (c .before .before .before .before .args .h) (c .before .if1 .taken) (omega (arith, c .before .before .before .body-length .ensures, c .if2 .taken)))
 
 returns-2 : tie.Need-returns-2
-returns-2 c = sym (styp-uneven (c .before .before .before .before .before .args .h) (c .before .before .if1 .taken) (omega (arith, c .before .before .before .before .body-length .ensures, c .before .if2 .left)) (λ e. c .if3 .taken (ap (λ (v : ℕ). v % 4) (c .before .before .before .before .body-length .ensures) ∙ e)))
+returns-2 c = sym
+    (styp-uneven (c .before .before .before .before .before .args .h) (c .before .before .if1 .taken) (omega (arith, c .before .before .before .before .body-length .ensures, c .before .if2 .left))
+    (λ e. c .if3 .taken (ap (λ (v : ℕ). v % 4) (c .before .before .before .before .body-length .ensures) ∙ e)))
 
 returns-3 : tie.Need-returns-3
-returns-3 c = sym (styp-right (c .before .before .before .before .before .args .h) (c .before .before .if1 .taken) (omega (arith, c .before .before .before .before .body-length .ensures, c .before .if2 .left)) (sym (ap (λ (v : ℕ). v % 4) (c .before .before .before .before .body-length .ensures)) ∙ c .if3 .left))
+returns-3 c = sym
+    (styp-right (c .before .before .before .before .before .args .h) (c .before .before .if1 .taken) (omega (arith, c .before .before .before .before .body-length .ensures, c .before .if2 .left))
+    (sym (ap (λ (v : ℕ). v % 4) (c .before .before .before .before .body-length .ensures)) ∙ c .if3 .left))
 
 returns-4 : tie.Need-returns-4
 returns-4 c = sym (sidx-short (c .before .before .before .before .before .before .args .h) (c .before .if4 .taken) (omega (arith, c .before .before .before .before .before .body-length .ensures, c .if5 .taken)))

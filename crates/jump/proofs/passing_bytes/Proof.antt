@@ -28,7 +28,7 @@ returns : tie.Need-returns
 unfolding passing
 returns c =
     let stop : c .before .before .lesser .result ≡ least (skips (c .before .before .before .before .args .s)) limit =
-        c .before .before .lesser .ensures ∙ ap (λ (k : ℕ). least k limit) (c .before .before .before .stage-skips .ensures) in
+    c .before .before .lesser .ensures ∙ ap (λ (k : ℕ). least k limit) (c .before .before .before .stage-skips .ensures) in
     c .lesser2 .ensures ∙ ap (λ (k : ℕ). least (c .before .before .before .before .args .rest) k) (omega (arith, stop, c .before .if1 .taken))
 
 -- src/lib.rt:131:18
@@ -48,7 +48,7 @@ returns-2 : tie.Need-returns-2
 unfolding passing
 returns-2 c =
     let stop : c .before .before .lesser .result ≡ least (skips (c .before .before .before .before .args .s)) limit =
-        c .before .before .lesser .ensures ∙ ap (λ (k : ℕ). least k limit) (c .before .before .before .stage-skips .ensures) in
+    c .before .before .lesser .ensures ∙ ap (λ (k : ℕ). least k limit) (c .before .before .before .stage-skips .ensures) in
     c .lesser3 .ensures ∙ ap (λ (k : ℕ). least (c .before .before .before .before .args .rest) k) (omega (arith, stop, c .before .if1 .left))
 
 pub passing-bytes-spec : {M : Type 1} → statement M

@@ -31,17 +31,25 @@ worse-requires c κs = search needs
 -- src/lib.rt:393:1
 returns : tie.Need-returns
 unfolding lift
-returns c = λ id f. sym (ap (λ (q : BodyStep). afterBody id (c .before .before .before .args .span) (c .before .before .before .args .so) (c .before .before .before .args .n) (viewBody f q)) (c .before .r .given .1))
+returns c =
+    let a = c .before .before .before .args in
+    λ id f. sym (ap (λ (q : BodyStep). afterBody id (a .span) (a .so) (a .n) (viewBody f q)) (c .before .r .given .1))
 
 -- src/lib.rt:393:1
 returns-2 : tie.Need-returns-2
 unfolding lift
-returns-2 c = λ id f. c .box-end .ensures id f ∙ sym (ap (λ (q : BodyStep). afterBody id (c .before .before .before .before .args .span) (c .before .before .before .before .args .so) (c .before .before .before .before .args .n) (viewBody f q)) (c .before .before .r2 .given .1))
+returns-2 c =
+    let a = c .before .before .before .before .args in
+    λ id f. c .box-end .ensures id f
+    ∙ sym (ap (λ (q : BodyStep). afterBody id (a .span) (a .so) (a .n) (viewBody f q)) (c .before .before .r2 .given .1))
 
 -- src/lib.rt:393:1
 returns-3 : tie.Need-returns-3
 unfolding lift
-returns-3 c = λ id f. ap (λ (x : Refusal). bad x (left f)) (c .worse .ensures) ∙ sym (ap (λ (q : BodyStep). afterBody id (c .before .before .before .before .args .span) (c .before .before .before .before .args .so) (c .before .before .before .before .args .n) (viewBody f q)) (c .before .before .r3 .given .1))
+returns-3 c =
+    let a = c .before .before .before .before .args in
+    λ id f. ap (λ (x : Refusal). bad x (left f)) (c .worse .ensures)
+    ∙ sym (ap (λ (q : BodyStep). afterBody id (a .span) (a .so) (a .n) (viewBody f q)) (c .before .before .r3 .given .1))
 
 pub after-body-spec : {M : Type 1} → statement M
 after-body-spec =

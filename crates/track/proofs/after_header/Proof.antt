@@ -22,11 +22,17 @@ worse-requires c κs = search needs
 
 -- src/lib.rt:429:9
 returns : tie.Need-returns
-returns c = λ id f. ap (λ (x : Refusal). bad x (left f)) (c .worse .ensures) ∙ ap (λ (m : ℕ). bad (lowest (refusal m (c .before .before .before .args .h .pos)) (besideTraf (c .before .before .before .args .span) (c .before .before .before .args .so .track) (c .before .before .before .args .n))) (left f)) (c .before .before .box-flaw .ensures) ∙ sym (header-bad id (c .before .before .before .args .span) (c .before .before .before .args .so) (c .before .before .before .args .n) (c .before .before .before .args .h) f (λ e. c .before .if1 .taken (c .before .before .box-flaw .ensures ∙ e)))
+returns c =
+    let a = c .before .before .before .args in
+    λ id f. ap (λ (x : Refusal). bad x (left f)) (c .worse .ensures)
+    ∙ ap (λ (m : ℕ). bad (lowest (refusal m (a .h .pos)) (besideTraf (a .span) (a .so .track) (a .n))) (left f)) (c .before .before .box-flaw .ensures)
+    ∙ sym (header-bad id (a .span) (a .so) (a .n) (a .h) f (λ e. c .before .if1 .taken (c .before .before .box-flaw .ensures ∙ e)))
 
 -- src/lib.rt:431:26
 body-begin-requires : tie.Need-body-begin-requires
-body-begin-requires c κs = omega (arith, all-right (c .before .before .args .so .track) (c .before .before .args .h) (c .before .before .args .span .end) (sym (c .before .box-flaw .ensures) ∙ c .if1 .left))
+body-begin-requires c κs =
+    let a = c .before .before .args in
+    omega (arith, all-right (a .so .track) (a .h) (a .span .end) (sym (c .before .box-flaw .ensures) ∙ c .if1 .left))
 
 -- src/lib.rt:431:5
 after-body-requires : tie.Need-after-body-requires
@@ -34,7 +40,11 @@ after-body-requires c κs = search needs
 
 -- src/lib.rt:418:1
 returns-2 : tie.Need-returns-2
-returns-2 c = λ id f. c .after-body .ensures id f ∙ ap (afterBody id (c .before .before .before .before .args .span) (c .before .before .before .before .args .so) (c .before .before .before .before .args .n)) (c .before .body-begin .ensures f) ∙ sym (header-good id (c .before .before .before .before .args .span) (c .before .before .before .before .args .so) (c .before .before .before .before .args .n) (c .before .before .before .before .args .h) f (sym (c .before .before .before .box-flaw .ensures) ∙ c .before .before .if1 .left))
+returns-2 c =
+    let a = c .before .before .before .before .args in
+    λ id f. c .after-body .ensures id f
+    ∙ ap (afterBody id (a .span) (a .so) (a .n)) (c .before .body-begin .ensures f)
+    ∙ sym (header-good id (a .span) (a .so) (a .n) (a .h) f (sym (c .before .before .before .box-flaw .ensures) ∙ c .before .before .if1 .left))
 
 pub after-header-spec : {M : Type 1} → statement M
 after-header-spec =

@@ -29,7 +29,9 @@ skip-to-requires c κs = search needs
 -- src/lib.rt:201:1
 returns-3 : tie.Need-returns-3
 unfolding beginTraf
-returns-3 c = λ f. c .skip-to .ensures f ∙ sym (pick-no _ _ _ (ne-eqb _ _ (c .before .before .before .if1 .left)) ∙ pick-no _ _ _ (ne-eqb _ _ (c .before .if2 .left)))
+returns-3 c =
+    λ f. c .skip-to .ensures f
+    ∙ sym (pick-no _ _ _ (ne-eqb _ _ (c .before .before .before .if1 .left)) ∙ pick-no _ _ _ (ne-eqb _ _ (c .before .if2 .left)))
 
 pub body-begin-spec : {M : Type 1} → statement M
 body-begin-spec = tie.close (tie.spec add-end returns returns-2 skip-to-requires returns-3)

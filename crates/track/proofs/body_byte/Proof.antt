@@ -43,16 +43,27 @@ field-byte-requires c κs = (c .before .before .before .pre .0, subst (λ (q : T
 -- src/lib.rt:188:1
 returns : tie.Need-returns
 unfolding stepTrafBody
-returns c = λ f. c .skip-to .ensures f ∙ ap (skipTraf nothing body.Skip (c .before .before .s .given .0 .0) f) (add-one (c .before .before .before .before .args .n)) ∙ sym (ap (λ (q : TrafBody). stepTrafBody (c .before .before .before .before .args .id) (c .before .before .before .before .args .t) q f (c .before .before .before .before .args .n) (c .before .before .before .before .args .b)) (c .before .before .s .given .1))
+returns c =
+    let a = c .before .before .before .before .args in
+    λ f. c .skip-to .ensures f
+    ∙ ap (skipTraf nothing body.Skip (c .before .before .s .given .0 .0) f) (add-one (a .n))
+    ∙ sym (ap (λ (q : TrafBody). stepTrafBody (a .id) (a .t) q f (a .n) (a .b)) (c .before .before .s .given .1))
 
 -- src/lib.rt:188:1
 returns-2 : tie.Need-returns-2
 unfolding stepTrafBody
-returns-2 c = λ f. c .rest-to .ensures f ∙ ap (restFrom (c .before .before .s2 .given .0 .0) (c .before .before .s2 .given .0 .1 .0) f) (add-one (c .before .before .before .before .args .n)) ∙ sym (ap (λ (q : TrafBody). stepTrafBody (c .before .before .before .before .args .id) (c .before .before .before .before .args .t) q f (c .before .before .before .before .args .n) (c .before .before .before .before .args .b)) (c .before .before .s2 .given .1))
+returns-2 c =
+    let a = c .before .before .before .before .args in
+    λ f. c .rest-to .ensures f
+    ∙ ap (restFrom (c .before .before .s2 .given .0 .0) (c .before .before .s2 .given .0 .1 .0) f) (add-one (a .n))
+    ∙ sym (ap (λ (q : TrafBody). stepTrafBody (a .id) (a .t) q f (a .n) (a .b)) (c .before .before .s2 .given .1))
 
 -- src/lib.rt:188:1
 returns-3 : tie.Need-returns-3
-returns-3 c = λ f. c .field-byte .ensures f ∙ sym (ap (λ (q : TrafBody). stepTrafBody (c .before .before .before .before .args .id) (c .before .before .before .before .args .t) q f (c .before .before .before .before .args .n) (c .before .before .before .before .args .b)) (c .before .before .s3 .given .1))
+returns-3 c =
+    let a = c .before .before .before .before .args in
+    λ f. c .field-byte .ensures f
+    ∙ sym (ap (λ (q : TrafBody). stepTrafBody (a .id) (a .t) q f (a .n) (a .b)) (c .before .before .s3 .given .1))
 
 pub body-byte-spec : {M : Type 1} → statement M
 body-byte-spec =

@@ -34,16 +34,25 @@ time-end-requires c κs = search needs
 -- src/lib.rt:378:1
 returns : tie.Need-returns
 unfolding trafNow fallFaults
-returns c = λ id f. c .go-on .ensures id f ∙ sym (ap (λ (g : Given). goOn (trafBoxes id (c .before .before .before .args .span)) wrapTraf (trafNext (c .before .before .before .args .span) (trafNow (c .before .before .before .args .so) (gaveOf g)) (fallFaults (c .before .before .before .args .so .seen .last) (gaveOf g)) (c .before .before .before .args .n)) f) (c .before .enum-told .given .1))
+returns c =
+    let a = c .before .before .before .args in
+    λ id f. c .go-on .ensures id f
+    ∙ sym (ap (λ (g : Given). goOn (trafBoxes id (a .span)) wrapTraf (trafNext (a .span) (trafNow (a .so) (gaveOf g)) (fallFaults (a .so .seen .last) (gaveOf g)) (a .n)) f) (c .before .enum-told .given .1))
 
 -- src/lib.rt:378:1
 returns-2 : tie.Need-returns-2
 unfolding trafNow fallFaults
-returns-2 c = λ id f. c .go-on2 .ensures id f ∙ sym (ap (λ (g : Given). goOn (trafBoxes id (c .before .before .before .before .before .args .span)) wrapTraf (trafNext (c .before .before .before .before .before .args .span) (trafNow (c .before .before .before .before .before .args .so) (gaveOf g)) (fallFaults (c .before .before .before .before .before .args .so .seen .last) (gaveOf g)) (c .before .before .before .before .before .args .n)) f) (c .before .before .before .g .given .1))
+returns-2 c =
+    let a = c .before .before .before .before .before .args in
+    λ id f. c .go-on2 .ensures id f
+    ∙ sym (ap (λ (g : Given). goOn (trafBoxes id (a .span)) wrapTraf (trafNext (a .span) (trafNow (a .so) (gaveOf g)) (fallFaults (a .so .seen .last) (gaveOf g)) (a .n)) f) (c .before .before .before .g .given .1))
 
 -- src/lib.rt:378:1
 returns-3 : tie.Need-returns-3
-returns-3 c = λ id f. c .time-end .ensures id f ∙ sym (ap (λ (g : Given). goOn (trafBoxes id (c .before .before .before .before .args .span)) wrapTraf (trafNext (c .before .before .before .before .args .span) (trafNow (c .before .before .before .before .args .so) (gaveOf g)) (fallFaults (c .before .before .before .before .args .so .seen .last) (gaveOf g)) (c .before .before .before .before .args .n)) f) (c .before .before .g2 .given .1))
+returns-3 c =
+    let a = c .before .before .before .before .args in
+    λ id f. c .time-end .ensures id f
+    ∙ sym (ap (λ (g : Given). goOn (trafBoxes id (a .span)) wrapTraf (trafNext (a .span) (trafNow (a .so) (gaveOf g)) (fallFaults (a .so .seen .last) (gaveOf g)) (a .n)) f) (c .before .before .g2 .given .1))
 
 pub box-end-spec : {M : Type 1} → statement M
 box-end-spec =

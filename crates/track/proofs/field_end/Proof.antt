@@ -50,25 +50,40 @@ is-reference-requires c κs = search needs
 -- src/lib.rt:143:1
 returns : tie.Need-returns
 unfolding trafEnds
-returns c = λ f. sym (ap (λ (q : TrafPart). trafEnds (c .before .before .before .args .id) (c .before .before .before .args .t) q (c .before .before .before .args .v) f (c .before .before .before .args .n)) (c .before .p .given .1))
+returns c =
+    let a = c .before .before .before .args in
+    λ f. sym (ap (λ (q : TrafPart). trafEnds (a .id) (a .t) q (a .v) f (a .n)) (c .before .p .given .1))
 
 -- src/lib.rt:143:1
 returns-2 : tie.Need-returns-2
 unfolding trafEnds
-returns-2 c = λ f. c .rest-to .ensures f ∙ sym (ap (λ (q : TrafPart). trafEnds (c .before .before .before .before .args .id) (c .before .before .before .before .args .t) q (c .before .before .before .before .args .v) f (c .before .before .before .before .args .n)) (c .before .before .p2 .given .1))
+returns-2 c =
+    let a = c .before .before .before .before .args in
+    λ f. c .rest-to .ensures f
+    ∙ sym (ap (λ (q : TrafPart). trafEnds (a .id) (a .t) q (a .v) f (a .n)) (c .before .before .p2 .given .1))
 
 -- src/lib.rt:143:1
 returns-3 : tie.Need-returns-3
-returns-3 c = λ f. c .version-end .ensures (c .before .before .before .before .args .id) (c .before .before .before .before .args .t) f ∙ sym (ap (λ (q : TrafPart). trafEnds (c .before .before .before .before .args .id) (c .before .before .before .before .args .t) q (c .before .before .before .before .args .v) f (c .before .before .before .before .args .n)) (c .before .before .p3 .given .1))
+returns-3 c =
+    let a = c .before .before .before .before .args in
+    λ f. c .version-end .ensures (a .id) (a .t) f
+    ∙ sym (ap (λ (q : TrafPart). trafEnds (a .id) (a .t) q (a .v) f (a .n)) (c .before .before .p3 .given .1))
 
 -- src/lib.rt:143:1
 returns-4 : tie.Need-returns-4
-returns-4 c = λ f. ap (λ (m : ℕ). go (body.Field (part.Time (c .before .before .p4 .given .0 .0)) m 0) f) (c .time-more .ensures) ∙ sym (time-flags (c .before .before .before .before .args .id) (c .before .before .before .before .args .t) (c .before .before .p4 .given .0 .0) (c .before .before .p4 .given .0 .1 .0) (c .before .before .before .before .args .v) f (c .before .before .before .before .args .n)) ∙ sym (ap (λ (q : TrafPart). trafEnds (c .before .before .before .before .args .id) (c .before .before .before .before .args .t) q (c .before .before .before .before .args .v) f (c .before .before .before .before .args .n)) (c .before .before .p4 .given .1))
+returns-4 c =
+    let a = c .before .before .before .before .args in
+    λ f. ap (λ (m : ℕ). go (body.Field (part.Time (c .before .before .p4 .given .0 .0)) m 0) f) (c .time-more .ensures)
+    ∙ sym (time-flags (a .id) (a .t) (c .before .before .p4 .given .0 .0) (c .before .before .p4 .given .0 .1 .0) (a .v) f (a .n))
+    ∙ sym (ap (λ (q : TrafPart). trafEnds (a .id) (a .t) q (a .v) f (a .n)) (c .before .before .p4 .given .1))
 
 -- src/lib.rt:143:1
 returns-5 : tie.Need-returns-5
 unfolding trafEnds
-returns-5 c = λ f. ap (λ (r : Bool). done (timed r (c .before .before .p5 .given .0 .0) (c .before .before .before .before .args .v)) f) (c .is-reference .ensures) ∙ sym (ap (λ (q : TrafPart). trafEnds (c .before .before .before .before .args .id) (c .before .before .before .before .args .t) q (c .before .before .before .before .args .v) f (c .before .before .before .before .args .n)) (c .before .before .p5 .given .1))
+returns-5 c =
+    let a = c .before .before .before .before .args in
+    λ f. ap (λ (r : Bool). done (timed r (c .before .before .p5 .given .0 .0) (a .v)) f) (c .is-reference .ensures)
+    ∙ sym (ap (λ (q : TrafPart). trafEnds (a .id) (a .t) q (a .v) f (a .n)) (c .before .before .p5 .given .1))
 
 pub field-end-spec : {M : Type 1} → statement M
 field-end-spec =

@@ -19,7 +19,11 @@ falls-requires c κs = search needs
 -- src/lib.rt:361:9
 returns : tie.Need-returns
 unfolding trafNow fallFaults shows
-returns c = λ id f. sym (ap (λ (t : Bool). goOn (trafBoxes id (c .before .before .before .args .span)) wrapTraf (trafNext (c .before .before .before .args .span) (trafNow (c .before .before .before .args .so) (timed (c .before .before .before .args .reference) (c .before .before .before .args .pos) (c .before .before .before .args .v))) (shows t 18 (c .before .before .before .args .pos)) (c .before .before .before .args .n)) f) (sym (c .before .falls .ensures) ∙ c .if1 .taken) ∙ falling id (c .before .before .before .args .span) _ (c .before .before .before .args .pos) (c .before .before .before .args .n) f)
+returns c =
+    let a = c .before .before .before .args in
+    λ id f. sym
+    (ap (λ (t : Bool). goOn (trafBoxes id (a .span)) wrapTraf (trafNext (a .span) (trafNow (a .so) (timed (a .reference) (a .pos) (a .v))) (shows t 18 (a .pos)) (a .n)) f) (sym (c .before .falls .ensures) ∙ c .if1 .taken)
+    ∙ falling id (a .span) _ (a .pos) (a .n) f)
 
 -- src/lib.rt:366:9
 with-time-requires : tie.Need-with-time-requires
@@ -32,7 +36,11 @@ go-on-requires c κs = search needs
 -- src/lib.rt:356:1
 returns-2 : tie.Need-returns-2
 unfolding trafNow fallFaults shows
-returns-2 c = λ id f. c .go-on .ensures id f ∙ ap (λ (s : Seen). goOn (trafBoxes id (c .before .before .before .before .before .args .span)) wrapTraf (trafNext (c .before .before .before .before .before .args .span) (record { track = track.Timed; seen = s }) [] (c .before .before .before .before .before .args .n)) f) (c .before .with-time .ensures) ∙ sym (ap (λ (t : Bool). goOn (trafBoxes id (c .before .before .before .before .before .args .span)) wrapTraf (trafNext (c .before .before .before .before .before .args .span) (trafNow (c .before .before .before .before .before .args .so) (timed (c .before .before .before .before .before .args .reference) (c .before .before .before .before .before .args .pos) (c .before .before .before .before .before .args .v))) (shows t 18 (c .before .before .before .before .before .args .pos)) (c .before .before .before .before .before .args .n)) f) (sym (c .before .before .before .falls .ensures) ∙ c .before .before .if1 .left))
+returns-2 c =
+    let a = c .before .before .before .before .before .args in
+    λ id f. c .go-on .ensures id f
+    ∙ ap (λ (s : Seen). goOn (trafBoxes id (a .span)) wrapTraf (trafNext (a .span) (record { track = track.Timed; seen = s }) [] (a .n)) f) (c .before .with-time .ensures)
+    ∙ sym (ap (λ (t : Bool). goOn (trafBoxes id (a .span)) wrapTraf (trafNext (a .span) (trafNow (a .so) (timed (a .reference) (a .pos) (a .v))) (shows t 18 (a .pos)) (a .n)) f) (sym (c .before .before .before .falls .ensures) ∙ c .before .before .if1 .left))
 
 pub time-end-spec : {M : Type 1} → statement M
 time-end-spec =

@@ -50,12 +50,22 @@ after-body-requires c κs = search needs
 -- src/lib.rt:449:1
 returns : tie.Need-returns
 unfolding stepTraf stepBox
-returns c = λ f. c .after-head .ensures (c .before .before .before .before .before .args .id) f ∙ ap (afterHead (c .before .before .before .before .before .args .id) (c .before .before .before .before .before .args .span) (c .before .before .before .s .given .0 .0) (c .before .before .before .before .before .args .n + 1)) (c .before .head-byte .ensures f) ∙ ap (λ (m : ℕ). afterHead (c .before .before .before .before .before .args .id) (c .before .before .before .before .before .args .span) (c .before .before .before .s .given .0 .0) m (stepHead left (c .before .before .before .before .before .args .span .end) (c .before .before .before .s .given .0 .1 .0) f (c .before .before .before .before .before .args .n) (c .before .before .before .before .before .args .b))) (add-one (c .before .before .before .before .before .args .n)) ∙ sym (ap (λ (q : TrafBoxes). stepTraf (c .before .before .before .before .before .args .id) (c .before .before .before .before .before .args .span) q f (c .before .before .before .before .before .args .n) (c .before .before .before .before .before .args .b)) (c .before .before .before .s .given .1))
+returns c =
+    let a = c .before .before .before .before .before .args in
+    λ f. c .after-head .ensures (a .id) f
+    ∙ ap (afterHead (a .id) (a .span) (c .before .before .before .s .given .0 .0) (a .n + 1)) (c .before .head-byte .ensures f)
+    ∙ ap (λ (m : ℕ). afterHead (a .id) (a .span) (c .before .before .before .s .given .0 .0) m (stepHead left (a .span .end) (c .before .before .before .s .given .0 .1 .0) f (a .n) (a .b))) (add-one (a .n))
+    ∙ sym (ap (λ (q : TrafBoxes). stepTraf (a .id) (a .span) q f (a .n) (a .b)) (c .before .before .before .s .given .1))
 
 -- src/lib.rt:449:1
 returns-2 : tie.Need-returns-2
 unfolding stepTraf stepBox
-returns-2 c = λ f. c .after-body .ensures (c .before .before .before .before .before .args .id) f ∙ ap (afterBody (c .before .before .before .before .before .args .id) (c .before .before .before .before .before .args .span) (c .before .before .before .s2 .given .0 .0) (c .before .before .before .before .before .args .n + 1)) (c .before .body-byte .ensures f) ∙ ap (λ (m : ℕ). afterBody (c .before .before .before .before .before .args .id) (c .before .before .before .before .before .args .span) (c .before .before .before .s2 .given .0 .0) m (stepTrafBody (c .before .before .before .before .before .args .id) (c .before .before .before .s2 .given .0 .0 .track) (c .before .before .before .s2 .given .0 .1 .0) f (c .before .before .before .before .before .args .n) (c .before .before .before .before .before .args .b))) (add-one (c .before .before .before .before .before .args .n)) ∙ sym (ap (λ (q : TrafBoxes). stepTraf (c .before .before .before .before .before .args .id) (c .before .before .before .before .before .args .span) q f (c .before .before .before .before .before .args .n) (c .before .before .before .before .before .args .b)) (c .before .before .before .s2 .given .1))
+returns-2 c =
+    let a = c .before .before .before .before .before .args in
+    λ f. c .after-body .ensures (a .id) f
+    ∙ ap (afterBody (a .id) (a .span) (c .before .before .before .s2 .given .0 .0) (a .n + 1)) (c .before .body-byte .ensures f)
+    ∙ ap (λ (m : ℕ). afterBody (a .id) (a .span) (c .before .before .before .s2 .given .0 .0) m (stepTrafBody (a .id) (c .before .before .before .s2 .given .0 .0 .track) (c .before .before .before .s2 .given .0 .1 .0) f (a .n) (a .b))) (add-one (a .n))
+    ∙ sym (ap (λ (q : TrafBoxes). stepTraf (a .id) (a .span) q f (a .n) (a .b)) (c .before .before .before .s2 .given .1))
 
 pub traf-byte-spec : {M : Type 1} → statement M
 traf-byte-spec =

@@ -1,0 +1,45 @@
+use Prim.Native.Nat.{ℕ}
+use mathlib.Core.Path.{ap, sym, _∙_}
+use native.Mathlib.Omega.{arith}
+use Rattle.machine.specs.Faults.{refusal, lowest}
+use Rattle.machine.specs.Run.{bad, lift}
+use Rattle.state.specs.Flow.{left}
+use Rattle.state.specs.Leaf.{moofBoxes, wrapMoof}
+use Rattle.leaf.specs.Leaf.{afterBody}
+use Rattle.leaf.proofs.Laws.{header-bad, header-good, moof-flaw, moof-placed, size-within}
+use borrow.Author.Needs.{needs}
+use Rattle.leaf.proofs.after_moof_header.Statement.{statement}
+use Rattle.leaf.proofs.after_moof_header.Tie as tie
+
+-- src/lib.rt:163:9
+size-flaw-requires : tie.Need-size-flaw-requires
+size-flaw-requires c κs = search needs
+
+-- src/lib.rt:165:9
+returns : tie.Need-returns
+unfolding lift lowest
+returns c =
+    let a = c .before .before .args in
+    λ id f. ap (λ (m : ℕ). bad (refusal m (a .h .pos)) (left f)) (c .before .size-flaw .ensures ∙ sym (moof-flaw (a .end) (a .h)))
+    ∙ sym (header-bad (moofBoxes id (a .end)) wrapMoof (a .seen) (a .n) (a .h) f (a .h .pos) (moof-placed (a .end) (a .h)) (λ e. c .if1 .taken (c .before .size-flaw .ensures ∙ sym (moof-flaw (a .end) (a .h)) ∙ e)))
+
+-- src/lib.rt:170:32
+begin-moof-requires : tie.Need-begin-moof-requires
+begin-moof-requires c κs = omega (arith, size-within (c .before .before .args .end) (c .before .before .args .h) (sym (c .before .size-flaw .ensures) ∙ c .if1 .left))
+
+-- src/lib.rt:170:5
+after-moof-body-requires : tie.Need-after-moof-body-requires
+after-moof-body-requires c κs = search needs
+
+-- src/lib.rt:160:1
+returns-2 : tie.Need-returns-2
+returns-2 c =
+    let a = c .before .before .before .before .args in
+    λ id f. c .after-moof-body .ensures id f
+    ∙ ap (afterBody (moofBoxes id (a .end)) wrapMoof (a .seen) (a .n)) (c .before .begin-moof .ensures id f)
+    ∙ sym (header-good (moofBoxes id (a .end)) wrapMoof (a .seen) (a .n) (a .h) f (a .h .pos) (moof-placed (a .end) (a .h)) (moof-flaw (a .end) (a .h) ∙ sym (c .before .before .before .size-flaw .ensures) ∙ c .before .before .if1 .left))
+
+pub after-moof-header-spec : {M : Type 1} → statement M
+after-moof-header-spec =
+    tie.close
+    (tie.spec size-flaw-requires returns begin-moof-requires after-moof-body-requires returns-2)

@@ -1,0 +1,64 @@
+use mathlib.Core.Path.{ap, sym, subst, _∙_}
+use native.Mathlib.Numerals.{add-one}
+use Rattle.state.specs.Leaf.{skipMoof, liftTraf, stepMoofBody}
+use Rattle.state.specs.Ranges.{Within, moofBodyBounds}
+use Rattle.state.specs.declared.MoofBody.{MoofBody}
+use borrow.Author.Needs.{needs}
+use Rattle.leaf.proofs.moof_body_byte.Statement.{statement}
+use Rattle.leaf.proofs.moof_body_byte.Tie as tie
+
+-- src/lib.rt:123:26
+enum-known-s : tie.Need-enum-known-s
+enum-known-s c = search needs
+
+-- src/lib.rt:123:52
+add-skip-moof : tie.Need-add-skip-moof
+add-skip-moof c = search needs
+
+-- src/lib.rt:123:36
+skip-moof-requires : tie.Need-skip-moof-requires
+skip-moof-requires c κs = search needs
+
+-- src/lib.rt:124:24
+enum-known-s-2 : tie.Need-enum-known-s-2
+enum-known-s-2 c = search needs
+
+-- src/lib.rt:124:56
+traf-byte-requires : tie.Need-traf-byte-requires
+unfolding moofBodyBounds
+traf-byte-requires c κs = (subst (λ (q : MoofBody). Within (moofBodyBounds q)) (c .before .s2 .given .1) (c .before .before .before .pre .0), c .before .before .before .pre .1)
+
+-- src/lib.rt:124:40
+lift-traf-requires : tie.Need-lift-traf-requires
+lift-traf-requires c κs = search needs
+
+-- src/lib.rt:118:1
+returns : tie.Need-returns
+unfolding stepMoofBody
+returns c =
+    let a = c .before .before .before .before .args in
+    λ f. c .skip-moof .ensures f
+    ∙ ap (skipMoof (c .before .before .s .given .0 .0) f) (add-one (a .n))
+    ∙ sym (ap (λ (q : MoofBody). stepMoofBody (a .id) q f (a .n) (a .b)) (c .before .before .s .given .1))
+
+-- src/lib.rt:118:1
+returns-2 : tie.Need-returns-2
+unfolding stepMoofBody
+returns-2 c =
+    let a = c .before .before .before .before .before .args in
+    λ f. c .lift-traf .ensures f
+    ∙ ap (liftTraf (c .before .before .before .s2 .given .0 .0)) (c .before .traf-byte .ensures f)
+    ∙ sym (ap (λ (q : MoofBody). stepMoofBody (a .id) q f (a .n) (a .b)) (c .before .before .before .s2 .given .1))
+
+pub moof-body-byte-spec : {M : Type 1} → statement M
+moof-body-byte-spec =
+    tie.close
+    (tie.spec
+    enum-known-s
+    add-skip-moof
+    skip-moof-requires
+    enum-known-s-2
+    traf-byte-requires
+    lift-traf-requires
+    returns
+    returns-2)

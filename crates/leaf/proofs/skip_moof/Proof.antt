@@ -1,0 +1,17 @@
+use mathlib.Core.Path.{sym}
+use borrow.Author.Tests.{le-leb, lt-leb}
+use Rattle.basics.proofs.Picks.{pick-yes, pick-no}
+use Rattle.state.specs.Flow.{left}
+use Rattle.leaf.proofs.skip_moof.Statement.{statement}
+use Rattle.leaf.proofs.skip_moof.Tie as tie
+
+-- src/lib.rt:87:9
+returns : tie.Need-returns
+returns c = λ f. sym (pick-yes _ _ _ (le-leb _ _ (c .if1 .taken)))
+
+-- src/lib.rt:83:1
+returns-2 : tie.Need-returns-2
+returns-2 c = λ f. sym (pick-no _ _ _ (lt-leb _ _ (c .if1 .left)))
+
+pub skip-moof-spec : {M : Type 1} → statement M
+skip-moof-spec = tie.close (tie.spec returns returns-2)

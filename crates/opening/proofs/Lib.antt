@@ -1,0 +1,4 @@
+pub mod GapFlaws
+pub mod GapSteps
+pub mod OpeningFlaws
+pub mod OpeningSteps

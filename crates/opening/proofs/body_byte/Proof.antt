@@ -1,0 +1,82 @@
+use Prim.Native.Nat.{_+_, _-_}
+use mathlib.Core.Path.{ap, subst, _∙_}
+use native.Mathlib.Omega.{arith}
+use Rattle.state.specs.Calls.{flowOf}
+use Rattle.state.specs.Ranges.{Within, openingBodyBounds}
+use Rattle.state.specs.declared.OpeningBody.{OpeningBody}
+use Rattle.header.proofs.Steps.{spelled-small}
+use Rattle.opening.specs.Views.{bodyOpening}
+use Rattle.opening.proofs.OpeningSteps.{skip-step, index-step}
+use borrow.Author.Needs.{needs}
+use Rattle.opening.proofs.body_byte.Statement.{statement}
+use Rattle.opening.proofs.body_byte.Tie as tie
+
+enum-known-s : tie.Need-enum-known-s
+enum-known-s c = search needs
+
+add-opening-skip : tie.Need-add-opening-skip
+add-opening-skip c = search needs
+
+opening-skip-requires : tie.Need-opening-skip-requires
+opening-skip-requires c κs = search needs
+
+enum-known-s-2 : tie.Need-enum-known-s-2
+enum-known-s-2 c = search needs
+
+styp-byte-requires : tie.Need-styp-byte-requires
+unfolding openingBodyBounds
+styp-byte-requires c κs = let w = subst (λ (q : OpeningBody). Within (openingBodyBounds q)) (c .before .s2 .given .1) (c .before .before .before .before .pre .0) in
+    (spelled-small 3 _ _ (omega arith) w, c .before .before .before .before .pre .1)
+
+enum-known-s-3 : tie.Need-enum-known-s-3
+enum-known-s-3 c = search needs
+
+index-byte-requires : tie.Need-index-byte-requires
+unfolding openingBodyBounds
+index-byte-requires c κs = (
+  tt,
+  tt,
+  subst (λ (q : OpeningBody). Within (openingBodyBounds q)) (c .before .before .s3 .given .1) (c .before .before .before .before .before .pre .0),
+  c .before .before .before .before .before .pre .1,
+  c .before .before .before .before .before .pre .2,
+)
+
+opening-index-requires : tie.Need-opening-index-requires
+opening-index-requires c κs = search needs
+
+returns : tie.Need-returns
+returns c = λ leaves at last table.
+    rw (c .before .before .s .given .1)
+    (c .opening-skip .ensures _ (flowOf leaves at last _ table)
+    ∙ ap (bodyOpening (c .before .before .before .before .before .args .brand) (c .before .before .before .before .before .args .branded) (c .before .before .before .before .before .args .n + 1))
+    (skip-step _ (c .before .before .before .before .before .args .branded) _ _ (c .before .before .before .before .before .args .b) _))
+
+returns-2 : tie.Need-returns-2
+returns-2 c = λ leaves at last table. rw (c .before .before .s2 .given .1) (c .styp-byte .ensures (flowOf leaves at last _ table))
+
+same-length : tie.Need-same-length
+same-length c = search needs
+
+returns-3 : tie.Need-returns-3
+returns-3 c = λ leaves at last table.
+    rw (c .before .before .before .before .before .before .s3 .given .1)
+    (c .opening-index .ensures _ _ _
+    ∙ index-step _ _ _ leaves at last _ _ table _ _ _ _ (c .before .before .before .index-byte .result)
+    (c .before .before .before .index-byte .ensures leaves last table))
+
+pub body-byte-spec : {M : Type 1} → statement M
+body-byte-spec =
+    tie.close
+    (tie.spec
+    enum-known-s
+    add-opening-skip
+    opening-skip-requires
+    enum-known-s-2
+    styp-byte-requires
+    enum-known-s-3
+    index-byte-requires
+    opening-index-requires
+    returns
+    returns-2
+    same-length
+    returns-3)

@@ -1,0 +1,55 @@
+use Prim.Native.Nat.{_+_, _-_}
+use mathlib.Core.Path.{ap, subst, _∙_}
+use Rattle.state.specs.Ranges.{Within, gapBounds}
+use Rattle.state.specs.declared.GapBoxes.{GapBoxes}
+use Rattle.opening.specs.Views.{headGap}
+use Rattle.opening.proofs.GapSteps.{gap-head-step, gap-body-step}
+use borrow.Author.Needs.{needs}
+use Rattle.opening.proofs.gap_byte.Statement.{statement}
+use Rattle.opening.proofs.gap_byte.Tie as tie
+
+enum-known-s : tie.Need-enum-known-s
+enum-known-s c = search needs
+
+head-byte-requires : tie.Need-head-byte-requires
+unfolding gapBounds
+head-byte-requires c κs = (subst (λ (q : GapBoxes). Within (gapBounds q)) (c .before .s .given .1) (c .before .before .before .pre .0), c .before .before .before .pre .1)
+
+add-gap-head : tie.Need-add-gap-head
+add-gap-head c = search needs
+
+gap-head-requires : tie.Need-gap-head-requires
+gap-head-requires c κs = search needs
+
+enum-known-s-2 : tie.Need-enum-known-s-2
+enum-known-s-2 c = search needs
+
+add-gap-skip : tie.Need-add-gap-skip
+add-gap-skip c = search needs
+
+gap-skip-requires : tie.Need-gap-skip-requires
+gap-skip-requires c κs = search needs
+
+returns : tie.Need-returns
+returns c = λ f.
+    rw (c .before .before .before .s .given .1)
+    (c .gap-head .ensures f
+    ∙ ap (headGap (c .before .before .before .before .before .args .end) (c .before .before .before .before .before .args .n + 1)) (c .before .head-byte .ensures f)
+    ∙ gap-head-step _ f _ _ _)
+
+returns-2 : tie.Need-returns-2
+returns-2 c = λ f. rw (c .before .before .s2 .given .1) (c .gap-skip .ensures f ∙ gap-body-step _ f _ (c .before .before .before .before .args .b) _)
+
+pub gap-byte-spec : {M : Type 1} → statement M
+gap-byte-spec =
+    tie.close
+    (tie.spec
+    enum-known-s
+    head-byte-requires
+    add-gap-head
+    gap-head-requires
+    enum-known-s-2
+    add-gap-skip
+    gap-skip-requires
+    returns
+    returns-2)

@@ -1,0 +1,27 @@
+use Prim.Native.Nat.{_-_}
+use mathlib.Core.Path.{sym, _∙_}
+use native.Mathlib.Omega.{arith}
+use Rattle.opening.proofs.GapFlaws.{gap-fits}
+use Rattle.opening.proofs.GapSteps.{gap-refused, gap-begun}
+use borrow.Author.Needs.{needs}
+use Rattle.opening.proofs.gap_headed.Statement.{statement}
+use Rattle.opening.proofs.gap_headed.Tie as tie
+
+gap-flaw-requires : tie.Need-gap-flaw-requires
+gap-flaw-requires c κs = search needs
+
+returns : tie.Need-returns
+returns c = λ f. gap-refused _ _ _ _ f (c .before .gap-flaw .ensures) (c .if1 .taken)
+
+add-gap-skip : tie.Need-add-gap-skip
+add-gap-skip c = omega (arith, gap-fits (c .before .before .before .args .end) (c .before .before .before .args .h) (sym (c .before .before .gap-flaw .ensures) ∙ c .before .if1 .left))
+
+gap-skip-requires : tie.Need-gap-skip-requires
+gap-skip-requires c κs = search needs
+
+returns-2 : tie.Need-returns-2
+returns-2 c = λ f. c .gap-skip .ensures f ∙ gap-begun _ _ _ _ f (c .before .before .before .gap-flaw .ensures) (c .before .before .if1 .left)
+
+pub gap-headed-spec : {M : Type 1} → statement M
+gap-headed-spec =
+    tie.close (tie.spec gap-flaw-requires returns add-gap-skip gap-skip-requires returns-2)

@@ -1,0 +1,15 @@
+use Prim.Native.Nat.{_-_}
+use mathlib.Core.Path.{sym}
+use Rattle.basics.proofs.Picks.{pick-yes, pick-no}
+use Rattle.state.specs.Flow.{left}
+use Rattle.opening.proofs.misplaced.Statement.{statement}
+use Rattle.opening.proofs.misplaced.Tie as tie
+
+returns : tie.Need-returns
+returns c = sym (pick-yes _ _ _ (c .if1 .taken))
+
+returns-2 : tie.Need-returns-2
+returns-2 c = sym (pick-no _ _ _ (c .if1 .left))
+
+pub misplaced-spec : {M : Type 1} → statement M
+misplaced-spec = tie.close (tie.spec returns returns-2)

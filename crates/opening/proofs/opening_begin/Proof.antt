@@ -1,0 +1,40 @@
+use Prim.Native.Nat.{_-_}
+use mathlib.Core.Path.{ap, _∙_}
+use borrow.Author.Tests.{eq-eqb, ne-eqb}
+use Rattle.basics.specs.Choose.{pick}
+use Rattle.machine.specs.Run.{lift}
+use Rattle.state.specs.Opening.{beginOpening}
+use Rattle.opening.specs.Views.{viewOpening, bodyOpening}
+use Rattle.opening.proofs.OpeningSteps.{skipped}
+use borrow.Author.Needs.{needs}
+use Rattle.opening.proofs.opening_begin.Statement.{statement}
+use Rattle.opening.proofs.opening_begin.Tie as tie
+
+add-end : tie.Need-add-end
+add-end c = search needs
+
+returns : tie.Need-returns
+unfolding beginOpening lift pick
+returns c = λ brand f. simp (eq-eqb _ _ (c .if1 .taken))
+
+index-start-requires : tie.Need-index-start-requires
+index-start-requires c κs = search needs
+
+returns-2 : tie.Need-returns-2
+unfolding beginOpening lift pick
+returns-2 c = λ brand f.
+    ap (viewOpening f) (c .index-start .ensures)
+    ∙ simp (ne-eqb _ _ (c .before .before .before .if1 .left), eq-eqb _ _ (c .before .if2 .taken))
+
+opening-skip-requires : tie.Need-opening-skip-requires
+opening-skip-requires c κs = search needs
+
+returns-3 : tie.Need-returns-3
+returns-3 c = λ brand f.
+    c .opening-skip .ensures brand f
+    ∙ ap (bodyOpening brand (c .before .before .before .before .before .before .args .branded) _) (skipped _ f _ (c .before .before .before .if1 .left) (c .before .if2 .left))
+
+pub opening-begin-spec : {M : Type 1} → statement M
+opening-begin-spec =
+    tie.close
+    (tie.spec add-end returns index-start-requires returns-2 opening-skip-requires returns-3)

@@ -1,0 +1,61 @@
+use Prim.Native.Nat.{_+_, _-_}
+use mathlib.Core.Path.{ap, subst, _∙_}
+use Rattle.state.specs.Calls.{flowOf}
+use Rattle.state.specs.Ranges.{Within, openingBounds}
+use Rattle.state.specs.declared.OpeningBoxes.{OpeningBoxes}
+use Rattle.opening.specs.Views.{headOpening}
+use Rattle.opening.proofs.OpeningSteps.{opening-head-step, opening-body-step}
+use borrow.Author.Needs.{needs}
+use Rattle.opening.proofs.opening_byte.Statement.{statement}
+use Rattle.opening.proofs.opening_byte.Tie as tie
+
+enum-known-s : tie.Need-enum-known-s
+enum-known-s c = search needs
+
+head-byte-requires : tie.Need-head-byte-requires
+unfolding openingBounds
+head-byte-requires c κs = (subst (λ (q : OpeningBoxes). Within (openingBounds q)) (c .before .s .given .1) (c .before .before .before .before .pre .0), c .before .before .before .before .pre .1)
+
+add-opening-head : tie.Need-add-opening-head
+add-opening-head c = search needs
+
+opening-head-requires : tie.Need-opening-head-requires
+opening-head-requires c κs = search needs
+
+enum-known-s-2 : tie.Need-enum-known-s-2
+enum-known-s-2 c = search needs
+
+body-byte-requires : tie.Need-body-byte-requires
+unfolding openingBounds
+body-byte-requires c κs = (
+  subst (λ (q : OpeningBoxes). Within (openingBounds q)) (c .before .before .s2 .given .1) (c .before .before .before .before .before .pre .0),
+  c .before .before .before .before .before .pre .1,
+  c .before .before .before .before .before .pre .2,
+)
+
+returns : tie.Need-returns
+returns c = λ leaves at last table.
+    rw (c .before .before .before .s .given .1)
+    (c .opening-head .ensures _ (flowOf leaves at last _ table)
+    ∙ ap (headOpening (c .before .before .before .before .before .before .args .brand) _ (c .before .before .before .before .before .before .args .n + 1)) (c .before .head-byte .ensures (flowOf leaves at last _ table))
+    ∙ opening-head-step _ _ _ _ _ _)
+
+same-length : tie.Need-same-length
+same-length c = search needs
+
+returns-2 : tie.Need-returns-2
+returns-2 c = λ leaves at last table. rw (c .before .before .before .before .before .s2 .given .1) (c .before .before .body-byte .ensures leaves at last table ∙ opening-body-step _ _ _ _ _ _)
+
+pub opening-byte-spec : {M : Type 1} → statement M
+opening-byte-spec =
+    tie.close
+    (tie.spec
+    enum-known-s
+    head-byte-requires
+    add-opening-head
+    opening-head-requires
+    enum-known-s-2
+    body-byte-requires
+    returns
+    same-length
+    returns-2)

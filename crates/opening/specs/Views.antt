@@ -1,0 +1,43 @@
+-- The code's answer to a byte, with what flows, as a machine's answer.
+use Prim.Native.Nat.{ℕ}
+use mathlib.Core.Bool.{Bool}
+use Rattle.machine.specs.Run.{Sub, go, done, bad, lift}
+use Rattle.machine.specs.Lists.{inHead, headed, liftBody, liftBox}
+use Rattle.machine.specs.declared.Head.{Head}
+use Rattle.machine.specs.declared.Header.{Header}
+use Rattle.state.specs.declared.GapBoxes.{GapBoxes}
+use Rattle.state.specs.declared.OpeningBoxes.{OpeningBoxes}
+use Rattle.state.specs.declared.Index.{Index}
+use Rattle.state.specs.declared.OpeningBody.{OpeningBody}
+use Rattle.state.specs.Flow.{Flow, Left, left}
+use Rattle.state.specs.Opening.{Opened, openingBox, opening, wrapOpening}
+use Rattle.state.specs.Stages.{gapKind, gapBoxes, wrapGap}
+use Rattle.opening.specs.declared.GapStep.{GapStep}
+use Rattle.opening.specs.declared.GapStep.the-variants as gaps
+use Rattle.opening.specs.declared.OpeningStep.{OpeningStep}
+use Rattle.opening.specs.declared.OpeningStep.the-variants as openings
+
+-- nothing of what flows changes in the gap
+abbrev pub viewGap : Flow → GapStep → Sub GapBoxes (Unit {0}) Flow Left
+viewGap f (gaps.Go s) = go s f
+viewGap f gaps.Done = done tt f
+viewGap f (gaps.Bad x) = bad x (left f)
+
+abbrev pub viewOpening : Flow → OpeningStep → Sub OpeningBoxes Index Flow Left
+viewOpening f (openings.Go s) = go s f
+viewOpening f (openings.Done x) = done x f
+viewOpening f (openings.Bad x) = bad x (left f)
+
+-- what the gap makes of a header's answer, and of a body's: `m` bytes up to the one at hand
+abbrev pub headGap : ℕ → ℕ → Sub Head Header Flow Left → Sub GapBoxes (Unit {0}) Flow Left
+headGap end m r = liftBox (gapBoxes end) wrapGap tt m (lift inHead (λ h f. headed (gapKind end) h f m) bad r)
+
+abbrev pub bodyGap : ℕ → ℕ → Sub ℕ (Unit {0}) Flow Left → Sub GapBoxes (Unit {0}) Flow Left
+bodyGap end m r = liftBox (gapBoxes end) wrapGap tt m (liftBody (gapKind end) r)
+
+-- the same up to the top index
+abbrev pub headOpening : ℕ → Bool → ℕ → Sub Head Header Flow Left → Sub OpeningBoxes Index Flow Left
+headOpening brand branded m r = liftBox (opening brand) wrapOpening branded m (lift inHead (λ h f. headed (openingBox brand branded) h f m) bad r)
+
+abbrev pub bodyOpening : ℕ → Bool → ℕ → Sub OpeningBody Opened Flow Left → Sub OpeningBoxes Index Flow Left
+bodyOpening brand branded m r = liftBox (opening brand) wrapOpening branded m (liftBody (openingBox brand branded) r)
