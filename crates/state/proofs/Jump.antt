@@ -1,14 +1,15 @@
 -- The jump law: the bytes of a skipped body, but for its last, change nothing but the count of bytes read.
-use Prim.Native.Nat.{ℕ, zero, suc, _+_, _≤_, _<_}
+use Prim.Native.Nat.{ℕ, zero, suc, _+_, _-_, _≤_, _<_}
 use mathlib.Core.Path.{_≡_, refl, ap, sym, _∙_}
 use mathlib.Core.List.{List, [], _∷_, _++_}
 use mathlib.Core.Bool.{Bool, true, false}
 use native.Mathlib.Omega.{arith}
-use lib.Dec.{eqb, leb}
-use lib.ListN.{length}
-use borrow.Author.Tests.{lt-leb, ne-eqb}
+use lib.Dec.{eqb, leb, ltb}
+use lib.ListN.{length, take, drop, take-append-drop, length-drop}
+use lib.Seq.{length-take-le, drop-drop}
+use borrow.Author.Tests.{lt-leb, ne-eqb, ltb-true, ltb-false}
 use Rattle.basics.specs.Choose.{pick}
-use Rattle.basics.proofs.Picks.{pick-no}
+use Rattle.basics.proofs.Picks.{pick-no, pick-holds}
 use Rattle.segment.specs.Constants.{limit}
 use Rattle.machine.specs.Faults.{shows, unless}
 use Rattle.machine.specs.Run.{Sub, go, done, bad, lift}
@@ -42,7 +43,7 @@ use Rattle.state.specs.Leaf.{skipped, stepMoofBody, moofBoxes, wrapMoof,
 use Rattle.state.specs.Opening.{passed, stepOpeningBody, opening, wrapOpening, stepOpening}
 use Rattle.state.specs.Stages.{gapBoxes, wrapGap, stepGap, stepStage}
 use Rattle.state.specs.Step.{World, reading, settle, pastLimit, step, run}
-use Rattle.state.specs.Jump.{trafBodySkips, trafSkips, moofBodySkips, moofSkips, leafBodySkips, leafSkips, openingBodySkips, openingSkips, gapSkips, skips}
+use Rattle.state.specs.Jump.{trafBodySkips, trafSkips, moofBodySkips, moofSkips, leafBodySkips, leafSkips, openingBodySkips, openingSkips, gapSkips, skips, least, passing}
 
 -- before the last byte of a skipped body nothing ends
 module _ {S R : Type 0} (r : R) (s : S) where
@@ -111,7 +112,7 @@ stage-stays (stage.Leaf top ls slot s) f n b h = rw (leaf-stays (top .id) slot s
 stage-stays (stage.Inner top ls slot s) f n b h = absurd (omega arith)
 
 -- row 3 does not show before the limit
-past-none : (n : ℕ) → n < limit → pastLimit n ≡ []
+pub past-none : (n : ℕ) → n < limit → pastLimit n ≡ []
 unfolding shows pick
 past-none n low = rw (ne-eqb n limit (λ e. omega arith))
 
@@ -129,3 +130,47 @@ jump (x ∷ xs) bytes n s f low h =
     ap (λ (w : World). run w (xs ++ bytes)) (step-stays n s f x (omega arith) (omega arith))
     ∙ jump xs bytes (suc n) s f (omega arith) (omega arith)
     ∙ ap (λ (m : ℕ). run (reading m s f) bytes) e
+
+least-first : (a b : ℕ) → least a b ≤ a
+unfolding least
+least-first a b = pick-holds (λ (k : ℕ). k ≤ a) (ltb a b) a b (λ e. omega arith) (λ e. ltb-false a b e)
+
+least-second : (a b : ℕ) → least a b ≤ b
+unfolding least
+least-second a b = pick-holds (λ (k : ℕ). k ≤ b) (ltb a b) a b (λ e. let h = ltb-true a b e in omega arith) (λ e. omega arith)
+
+-- the bytes that pass at once are there, within the limit and before the last of their body
+pub passing-there : (s : Stage) (n rest : ℕ) → passing s n rest ≤ rest
+unfolding passing
+passing-there s n rest = least-first rest (least (skips s) limit - suc n)
+
+pub passing-limit : (s : Stage) (n rest : ℕ) → n ≤ limit → n + passing s n rest ≤ limit
+unfolding passing
+passing-limit s n rest low =
+    omega (arith, low, least-second rest (least (skips s) limit - suc n), least-second (skips s) limit)
+
+passing-before : (s : Stage) (n rest : ℕ) → 0 < passing s n rest → n + passing s n rest < skips s
+unfolding passing
+passing-before s n rest some =
+    omega (arith, some, least-second rest (least (skips s) limit - suc n), least-first (skips s) limit)
+
+-- so many bytes from a place on, all of them there
+passes : (bytes : List ℕ) (i k n : ℕ) (s : Stage) (f : Flow) → i + k ≤ length bytes → n + k ≤ limit → n + k < skips s →
+    run (reading n s f) (drop i bytes) ≡ run (reading (n + k) s f) (drop (i + k) bytes)
+passes bytes i k n s f there low before =
+    let e : length (take k (drop i bytes)) ≡ k = length-take-le k (drop i bytes) (simp length-drop (omega arith)) in
+    ap (λ (xs : List ℕ). run (reading n s f) xs) (sym (take-append-drop k (drop i bytes)))
+    ∙ jump (take k (drop i bytes)) (drop k (drop i bytes)) n s f (rw e low) (rw e before)
+    ∙ ap (λ (m : ℕ). run (reading (n + m) s f) (drop k (drop i bytes))) e
+    ∙ ap (λ (xs : List ℕ). run (reading (n + k) s f) xs) (drop-drop k i bytes)
+
+-- the bytes that pass at once, passed
+pub run-passing : (bytes : List ℕ) (i n : ℕ) (s : Stage) (f : Flow) → n ≤ limit → i ≤ length bytes →
+    let k : ℕ = passing s n (length bytes - i) in run (reading n s f) (drop i bytes) ≡ run (reading (n + k) s f) (drop (i + k) bytes)
+run-passing bytes i n s f low there = at (passing s n (length bytes - i)) refl
+  where
+    at : (k : ℕ) → k ≡ passing s n (length bytes - i) → run (reading n s f) (drop i bytes) ≡ run (reading (n + k) s f) (drop (i + k) bytes)
+    at zero e = let a : n + 0 ≡ n = omega arith in let b : i + 0 ≡ i = omega arith in rw (a, b) refl
+    at (suc k) e =
+        passes bytes i (suc k) n s f (omega (arith, e, passing-there s n (length bytes - i))) (omega (arith, e, passing-limit s n (length bytes - i) low))
+        (omega (arith, e, passing-before s n (length bytes - i) (omega arith)))

@@ -60,7 +60,7 @@ pub start-in-range : (brand : ℕ) → InRange (startOf brand)
 unfolding bounds stageBounds openingBounds headBounds
 start-in-range brand = omega arith
 
-feed-state-kept : (s : State) (piece work table : List ℕ) → AllBytes piece → InRange s → InRange (feedState s piece work table .state)
+pub feed-state-kept : (s : State) (piece work table : List ℕ) → AllBytes piece → InRange s → InRange (feedState s piece work table .state)
 unfolding feedState stateOf
 feed-state-kept (state.Reading n leaves now last s) piece work table h g = run-kept (reading n s (flowOf leaves now last work table)) piece h g
 feed-state-kept (state.Ended n leaves top) piece work table h g = run-kept (ended n top (leftOf leaves work table)) piece h g
