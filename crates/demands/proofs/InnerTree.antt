@@ -2,25 +2,22 @@
 use Prim.Native.Nat.{ℕ, zero, suc, _+_, _-_, _*_, _%_, _≤_, _<_}
 use mathlib.Core.Path.{_≡_, refl, ap, sym, subst, _∙_}
 use mathlib.Core.Logic.{_≢_}
-use mathlib.Core.List.{List, [], _∷_, _++_, append-assoc}
+use mathlib.Core.List.{List, _++_}
 use mathlib.Core.Option.{Option, some, none}
-use mathlib.Core.Bool.{Bool, true, false, not, true≢false, _&&_, _||_, Bool·not-not}
+use mathlib.Core.Bool.{Bool, true, false, not, true≢false, _&&_, _||_}
 use native.Mathlib.Omega.{arith}
-use lib.Dec.{eqb, ltb, leb}
-use lib.ListN.{length, take, drop, length-drop}
-use borrow.Author.Tests.{eq-eqb, ne-eqb, eqb-true, eqb-false, le-ltb, lt-ltb, ltb-true, ltb-false, lt-leb, leb-true}
+use lib.Dec.{eqb, ltb}
+use lib.ListN.{length, drop, length-drop}
+use borrow.Author.Tests.{ne-eqb, eqb-true, ltb-true, ltb-false, lt-leb}
 use Rattle.basics.specs.Choose.{pick, andThen}
-use Rattle.basics.proofs.Picks.{pick-yes, pick-no, pick-with, pick-if, lt-or-ge}
-use Rattle.basics.proofs.Options.{then-cong, then-none, then-assoc, then-inv, then-pick, pick-some}
-use Rattle.segment.specs.Constants.{workBytes, levelBytes, entryBytes, mostEntries, styp, sidx, levels as mostLevels}
+use Rattle.basics.proofs.Tests.{same-test}
+use Rattle.basics.proofs.Options.{then-cong, then-assoc, then-pick}
+use Rattle.segment.specs.Constants.{workBytes, levelBytes, entryBytes, styp, sidx, levels as mostLevels}
 use Rattle.segment.specs.Boxes as tree
 use Rattle.segment.specs.Boxes.{Box, firstBox, sidxIndex, sizes, durations}
 use Rattle.segment.specs.Tree as tree'
-use Rattle.segment.specs.Tree.{Item, openIndex, innerIndex, underIndex, tile}
-use Rattle.machine.specs.Faults.{shows, unless}
-use Rattle.machine.specs.Run.{Res, okay, fail, cut, either, after}
-use Rattle.machine.specs.Heads.{boxEnd, sizeFaults}
-use Rattle.machine.specs.Lists.{boxD}
+use Rattle.segment.specs.Tree.{openIndex, innerIndex, underIndex, tile}
+use Rattle.machine.specs.Run.{Res, okay, fail, cut, after}
 use Rattle.machine.specs.declared.Refusal.{Refusal}
 use Rattle.machine.specs.declared.Header.{Header}
 use Rattle.machine.proofs.Kept.{Each, each-shows, each-append}
@@ -30,23 +27,23 @@ use Rattle.state.specs.declared.Span.{Span}
 use Rattle.state.specs.declared.Level.{Level}
 use Rattle.state.specs.declared.Slot.{Slot}
 use Rattle.state.specs.declared.Index.{Index}
-use Rattle.state.specs.Flow.{Flow, Left, left, withNow, putAll}
+use Rattle.state.specs.Flow.{Flow, Left, withNow, putAll}
 use Rattle.state.specs.Rows.{is, bodyLength, topLengths, innerFaults}
 use Rattle.state.specs.Opening.{spanOf}
-use Rattle.state.specs.Sidx.{Place, under, partOf, idFaults, scaleFaults, timeFaults, offsetFaults, sumFaults}
+use Rattle.state.specs.Sidx.{under, partOf}
 use Rattle.state.specs.Levels.{slotOf}
 use Rattle.state.specs.Stages.{innerKind, innerLevel}
 use Rattle.descent.specs.Sidx.{sidxD}
-use Rattle.descent.specs.Whole.{Under, innerD, entriesD, underD}
+use Rattle.descent.specs.Whole.{innerD, underD}
 use Rattle.demands.specs.Told.{upon, clean, headLength, headerOf, indexFrom, entryPart, withEntries, suits}
-use Rattle.demands.specs.Verdict.{Verdict, wrong, full, fine, judge, told, enlist, NotFine, Meets}
-use Rattle.demands.proofs.Upons.{clean-append, clean-shows, pick-and}
-use Rattle.demands.proofs.Verdicts.{meets-equal, meets-trans, judge-after, judge-not, judge-upon, told-then, told-cong, told-meets}
+use Rattle.demands.specs.Verdict.{Verdict, judge, told, enlist, Meets}
+use Rattle.demands.proofs.Upons.{clean-append, clean-shows}
+use Rattle.demands.proofs.Verdicts.{judge-after, judge-not, judge-upon, told-then, told-meets}
 use Rattle.demands.proofs.SegmentRun.{too-deep}
 use Rattle.demands.proofs.HeadTree.{FirstBox, first-box, box-tree}
-use Rattle.demands.proofs.SidxTree.{sidx-tree, SidxFacts, sidx-facts, sidx-short, sidx-numbers}
-use Rattle.demands.proofs.Stored.{Alike, alike-trans, alike-less, put-length, put-alike, entryFrom, holds}
-use Rattle.demands.proofs.TileTree.{Like, Goes, Follows, Stands, Deeper, tile-meets}
+use Rattle.demands.proofs.SidxTree.{suits-under, sidx-tree, SidxFacts, sidx-facts, sidx-short, sidx-numbers}
+use Rattle.demands.proofs.Stored.{alike-trans, alike-less, put-length, put-alike, entryFrom, holds}
+use Rattle.demands.proofs.TileTree.{Like, Goes, Follows, Deeper, tile-meets}
 
 -- The header of an index entry's first box shows no fault where it is that of an index that is long enough, below level 5.
 -- (s: it is a `styp`, x: it is an index, p and q: too short for one and for the other)
@@ -67,19 +64,6 @@ unfolding innerFaults topLengths
 inner-clean d h l =
     simp (clean-append, clean-shows, lt-leb mostLevels d l)
     (header-tests (is h styp) (is h sidx) (ltb (bodyLength h) 8 || not (eqb (bodyLength h % 4) 0)) (ltb (bodyLength h) 24) (other-kind h))
-
--- the tests of rule 4, in the reader's order and in the tree's
-six-tests : {A : Type 0} (a b c d e f : Bool) (o : Option A) → pick (a && b && c && d && (e && f)) o none ≡ pick a (pick b (pick d (pick c (pick f (pick e o none) none) none) none) none) none
-unfolding pick
-six-tests false b c d e f o = refl
-six-tests true false c d e f o = refl
-six-tests true true false false e f o = refl
-six-tests true true false true e f o = refl
-six-tests true true true false e f o = refl
-six-tests true true true true false false o = refl
-six-tests true true true true false true o = refl
-six-tests true true true true true false o = refl
-six-tests true true true true true true o = refl
 
 -- what follows six tests
 six-then : {A B : Type 0} (a b c d e f : Bool) (o : Option A) (S : A → Option B) →
@@ -112,27 +96,14 @@ unfolding told andThen
 told-by none W = refl
 told-by (some a) W = refl
 
-eqb-same : (a b c d : ℕ) → (a ≡ b → c ≡ d) → (c ≡ d → a ≡ b) → eqb a b ≡ eqb c d
-eqb-same a b c d p q = at (eqb a b) refl
-  where
-    no-eq : (t : Bool) → eqb a b ≡ false → eqb c d ≡ t → eqb c d ≡ false
-    no-eq true e k = absurd (eqb-false a b e (q (eqb-true c d k)))
-    no-eq false e k = k
-
-    at : (t : Bool) → eqb a b ≡ t → t ≡ eqb c d
-    at true e = sym (eq-eqb c d (p (eqb-true a b e)))
-    at false e = sym (no-eq (eqb c d) e refl)
-
 -- An inner index that suits its place is one that rule 4 allows.
 suits-inner : {A : Type 0} (top : Top) (slot : Slot) (d : ℕ) (span : Span) (i : tree.Index) (now n dur size all : ℕ) (o : Option A) → i .scale ≢ 0 → span .end ≡ n + size → slot .end ≡ n + all → slot .until ≡ now + dur →
     pick (suits (under top slot d) span i now) o none
     ≡ pick (eqb (i .id) (top .id)) (pick (eqb (i .scale) (top .scale)) (pick (eqb (i .offset) 0) (pick (eqb (i .time) now) (pick (eqb (durations (i .entries)) dur) (pick (eqb (size + sizes (i .entries)) all) o none) none) none) none) none) none
-unfolding suits idFaults scaleFaults timeFaults offsetFaults sumFaults
 suits-inner top slot d span i now n dur size all o sc se sl su =
-    let e1 = eqb-same (span .end + sizes (i .entries)) (slot .end) (size + sizes (i .entries)) all (λ q. omega arith) (λ q. omega arith) in
-    let e2 = eqb-same (now + durations (i .entries)) (slot .until) (durations (i .entries)) dur (λ q. omega arith) (λ q. omega arith) in
-    simp (clean-append, clean-shows, ne-eqb (i .scale) 0 sc, e1, e2, Bool·not-not)
-    (six-tests (eqb (i .id) (top .id)) (eqb (i .scale) (top .scale)) (eqb (i .time) now) (eqb (i .offset) 0) (eqb (size + sizes (i .entries)) all) (eqb (durations (i .entries)) dur) o)
+    let e1 = same-test (span .end + sizes (i .entries)) (slot .end) (size + sizes (i .entries)) all (λ q. omega arith) (λ q. omega arith) in
+    let e2 = same-test (now + durations (i .entries)) (slot .until) (durations (i .entries)) dur (λ q. omega arith) (λ q. omega arith) in
+    suits-under top slot d span i now o (omega arith) ∙ rw (e1, e2)
 
 -- The first box of an index entry is read where rule 4 allows it.
 module _ (X : Type 0) (top : Top) (slot : Slot) (d : ℕ) (f : Flow) (n dur : ℕ) (xs ys : List ℕ) (shallow : d < 4) (ends : slot .end ≡ n + length xs) (lasts : slot .until ≡ f .now + dur) where

@@ -1,7 +1,7 @@
 -- Law D: start, one feed of all the bytes and finish give what the descent gives: answer, state, work area and leaf table.
-use Prim.Native.Nat.{ℕ, zero, suc, _+_, _-_, _≤_, _<_}
+use Prim.Native.Nat.{ℕ, suc, _-_, _≤_, _<_}
 use mathlib.Core.Path.{_≡_, refl, ap, sym, _∙_}
-use mathlib.Core.List.{List, [], _∷_, _++_}
+use mathlib.Core.List.{List, [], _∷_}
 use mathlib.Core.Bool.{Bool, true, false}
 use mathlib.Core.Logic.{_⊎_, inl, inr}
 use native.Mathlib.Omega.{arith}
@@ -13,14 +13,13 @@ use Rattle.basics.specs.Bytes.{AllBytes}
 use Rattle.basics.proofs.Picks.{lt-or-ge, pick-yes, pick-no}
 use Rattle.segment.specs.Constants.{limit, workBytes}
 use Rattle.machine.specs.Faults.{shows, refusal, unless, lowest}
-use Rattle.machine.specs.Run.{Sub, go, done, bad, Res, okay, fail, cut, contBy, cont}
+use Rattle.machine.specs.Run.{Sub, go, done, bad, Res, contBy, cont}
 use Rattle.machine.specs.Run.{run as runs}
 use Rattle.machine.specs.Limit.{limited, beyond}
 use Rattle.machine.proofs.Limits.{limit-run}
 use Rattle.machine.specs.declared.Refusal.{Refusal}
 use Rattle.state.specs.declared.Top.{Top}
 use Rattle.state.specs.declared.Stage.{Stage}
-use Rattle.state.specs.declared.State.{State}
 use Rattle.state.specs.declared.State.the-variants as state
 use Rattle.state.specs.declared.FeedAnswer.{FeedAnswer}
 use Rattle.state.specs.declared.FeedAnswer.the-variants as feeds
@@ -29,12 +28,13 @@ use Rattle.state.specs.declared.FinishAnswer.the-variants as finishes
 use Rattle.state.specs.Flow.{Flow, Left, left}
 use Rattle.state.specs.Stages.{stepStage}
 use Rattle.state.specs.Step.{World, reading, ended, refused, settle, pastLimit, pastMaterial, step, run, stage0, flow0}
-use Rattle.state.specs.Ranges.{inRange, within, bounds, stageBounds, openingBounds, headBounds}
-use Rattle.state.specs.Calls.{Out, out, stateOf, workOf, tableOf, answerOf, fed, startOf, feedState, feedOf, finishState, finishOf, finishAfter, wholeOf}
+use Rattle.state.specs.Ranges.{inRange}
+use Rattle.state.specs.Calls.{Out, out, stateOf, workOf, tableOf, answerOf, fed, startOf, feedState, feedOf, finishState, finishAfter, wholeOf}
 use Rattle.state.proofs.RangeTests.{in-range}
 use Rattle.state.proofs.Cuts.{feed-short}
+use Rattle.state.proofs.Kept.{finish-inside}
 use Rattle.state.proofs.Ranges.{start-in-range, run-kept}
-use Rattle.descent.specs.Whole.{segmentD, outcome, readD, wholeD}
+use Rattle.descent.specs.Whole.{outcome, readD, wholeD}
 use Rattle.demands.proofs.SegmentRun.{segment-run}
 
 -- what is past the limit
@@ -80,10 +80,6 @@ fold-run [] n s f = refl
 fold-run (b ∷ bs) n s f = ap (λ w. outcomeOf (run w bs)) (step-limited s f n b) ∙ settled bs (fold-run bs) (suc n) (limited left limit over stepStage s f n b)
 
 -- finish after a feed, of a reading inside its ranges
-finish-inside : (s : State) → inRange s ≡ true → finishOf s ≡ finishState s
-unfolding finishOf
-finish-inside s e = pick-yes (inRange s) _ _ e
-
 finish-fed : (w : World) → inRange (stateOf w) ≡ true → finishAfter (fed w) (answerOf w) ≡ outcomeOf w
 unfolding finishAfter answerOf outcomeOf finishState stateOf workOf tableOf
 finish-fed (reading n s f) e = rw (finish-inside (state.Reading n (f .leaves) (f .now) (f .last) s) e)

@@ -30,7 +30,7 @@ use Rattle.state.specs.declared.LeafSo.{LeafSo}
 use Rattle.state.specs.Flow.{Flow, Left, left}
 use Rattle.state.specs.Rows.{is, topLengths, leafFaults, noRoom, trafFaults}
 use Rattle.state.specs.Opening.{spanOf}
-use Rattle.state.specs.Traf.{Gave, nothing, headed, timed, versionFaults, fallFaults, reference, lacking, trafNow, trafNext, trafBoxes, trafSo0}
+use Rattle.state.specs.Traf.{Gave, nothing, headed, timed, tfdtVersionFaults, fallFaults, reference, lacking, trafNow, trafNext, trafBoxes, trafSo0}
 use Rattle.state.specs.Leaf.{skipped, seenNow, moofNext, moofBoxes, leafNow, leafLacks, leafNext, leafBoxes, leafSo0}
 use Rattle.descent.specs.Opening.{skipTo}
 use Rattle.descent.specs.Leaf.{tfhdD, widthD, tfdtD, trafBodyD, trafD, moofBodyD, moofD, leafBodyD, leafD}
@@ -65,13 +65,13 @@ module _ (f : Flow) where
   width-says false r pos n bs = says-field Kept Told left _ 4 0 f n bs (λ v cs e. refl)
 
   traf-body-says : (id : ℕ) (t : Track) (h : Header) (n : ℕ) (bs : List ℕ) → Says Kept Told (trafBodyD id t h f n bs)
-  unfolding trafBodyD tfhdD tfdtD versionFaults
+  unfolding trafBodyD tfhdD tfdtD tfdtVersionFaults
   traf-body-says id t h n bs =
       pick-holds (Says Kept Told) (is h tfhd) _ _
       (λ e. says-field Kept Told left _ 4 0 f n bs (λ v cs e'. says-field Kept Told left _ 4 0 f (n + 4) cs (λ u ds e''. skip-says (headed (eqb u id)) (boxEnd h) (n + 4 + 4) ds)))
       (λ e. pick-holds (Says Kept Told) (is h tfdt) _ _
       (λ e'. says-field Kept Told left _ 1 0 f n bs
-      (λ v cs e''. says-unless Kept Told (versionFaults (h .pos) (boxEnd h) v (n + 1)) (left f) (n + 1) _
+      (λ v cs e''. says-unless Kept Told (tfdtVersionFaults (h .pos) (boxEnd h) v (n + 1)) (left f) (n + 1) _
       (both (n + 1) _ _ (each-told _ 10 (h .pos) (n + 1) (λ q. omega arith)) (each-told _ 6 (h .pos) (n + 1) (λ q. omega arith)))
       (λ none. says-field Kept Told left _ 3 0 f (n + 1) cs (λ flags ds q. width-says (eqb v 1) (reference t) (h .pos) (n + 1 + 3) ds))))
       (λ e'. skip-says nothing (boxEnd h) n bs))

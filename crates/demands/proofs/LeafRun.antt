@@ -1,12 +1,11 @@
 -- A leaf by structure is the leaf read byte by byte: its boxes, those of a `moof` in it, and those of a `traf` in that.
-use Prim.Native.Nat.{ℕ, zero, suc, _+_, _-_, _≤_, _<_}
+use Prim.Native.Nat.{ℕ, suc, _-_}
 use mathlib.Core.Path.{_≡_, refl, ap, sym, _∙_}
-use mathlib.Core.List.{List, [], _∷_}
+use mathlib.Core.List.{List, []}
 use mathlib.Core.Bool.{Bool, true, false}
 use native.Mathlib.Omega.{arith}
 use lib.Dec.{eqb}
 use lib.ListN.{length}
-use Rattle.basics.specs.Choose.{pick}
 use Rattle.basics.proofs.Picks.{pick-both}
 use Rattle.segment.specs.Constants.{moof, traf, tfhd, tfdt}
 use Rattle.machine.specs.Run.{Sub, go, done, bad, lift, Res, okay, after, contBy, run, cont, fieldD, plain}
@@ -38,7 +37,7 @@ use Rattle.state.specs.declared.LeafBoxes.the-variants as leafBox
 use Rattle.state.specs.Flow.{Flow, Left, left}
 use Rattle.state.specs.Rows.{is}
 use Rattle.state.specs.Opening.{spanOf}
-use Rattle.state.specs.Traf.{Gave, nothing, headed, timed, versionFaults, reference, trafEnds, beginTraf, stepTrafBody, trafNext, trafBoxes, wrapTraf, stepTraf, trafSo0, beginTrafBoxes}
+use Rattle.state.specs.Traf.{Gave, nothing, headed, tfdtVersionFaults, reference, trafEnds, beginTraf, stepTrafBody, trafNext, trafBoxes, wrapTraf, stepTraf, trafSo0, beginTrafBoxes}
 use Rattle.state.specs.Leaf.{Passed, skipped, seeing, beginMoof, stepMoofBody, moofNext, moofBoxes, wrapMoof, stepMoof, beginMoofBoxes, beginLeaf, stepLeafBody, leafBoxes, wrapLeaf, stepLeaf, leafSo0}
 use Rattle.descent.specs.Leaf.{tfhdD, widthD, tfdtD, trafBodyD, trafD, moofBodyD, moofD, leafBodyD, leafD}
 
@@ -68,7 +67,7 @@ module _ (id : ℕ) (t : Track) where
   unfolding tfdtD trafEnds contBy
   tfdt-run pos end f n bs =
       number (part.Version pos end) _
-      (λ v g m cs. unless-both (λ r. r) (T m cs) _ _ _ _ (versionFaults pos end v m) (λ x. refl)
+      (λ v g m cs. unless-both (λ r. r) (T m cs) _ _ _ _ (tfdtVersionFaults pos end v m) (λ x. refl)
       (number (part.TimeFlags pos (eqb v 1)) _ (λ flags h k ds. width-run (eqb v 1) pos flags h k ds) 2 g m cs))
       0 f n bs
 

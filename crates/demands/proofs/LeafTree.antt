@@ -3,7 +3,7 @@ use Prim.Native.Nat.{ℕ, zero, suc, _+_, _-_, _≤_, _<_}
 use mathlib.Core.Path.{_≡_, refl, ap, sym, _∙_}
 use mathlib.Core.List.{List, [], _∷_, _++_}
 use mathlib.Core.Option.{Option, some, none}
-use mathlib.Core.Bool.{Bool, true, false, not, _&&_, _||_}
+use mathlib.Core.Bool.{Bool, true, false, not, _&&_, _||_, Bool·not-not}
 use mathlib.Core.Logic.{_≢_}
 use native.Mathlib.Omega.{arith}
 use lib.Dec.{eqb, ltb}
@@ -31,7 +31,7 @@ use Rattle.state.specs.declared.Track.{Track}
 use Rattle.state.specs.Flow.{Flow, Left, left}
 use Rattle.state.specs.Rows.{is, bodyLength, topLengths, leafFaults, noRoom, trafFaults}
 use Rattle.state.specs.Opening.{spanOf}
-use Rattle.state.specs.Traf.{Gave, nothing, headed, timed, versionFaults, fallFaults, reference, lacking, trafNow, trafNext, trafBoxes, trafSo0}
+use Rattle.state.specs.Traf.{Gave, nothing, headed, timed, tfdtVersionFaults, fallFaults, reference, lacking, trafNow, trafNext, trafBoxes, trafSo0}
 use Rattle.state.specs.Leaf.{Passed, skipped, seeing, moofNext, moofBoxes, leafNow, leafLacks, leafNext, leafSo0}
 use Rattle.state.specs.Leaf as state
 use Rattle.descent.specs.Opening.{skipTo}
@@ -41,7 +41,7 @@ use Rattle.demands.specs.Walks.{trafItem, trafWalk, moofItem, moofWalk, 
 use Rattle.demands.proofs.Upons.{clean-none, upon-after, upon-unless, upon-field, clean-append, clean-shows}
 use Rattle.demands.proofs.HeadTree.{head-tree}
 use Rattle.demands.proofs.ListTree.{list-tree, start-tree}
-use Rattle.demands.proofs.WalkTree.{not-not, not-or, field-rest, body-length, traf-faults, cut-fits, traf-walk, moof-walk, leaf-walk, first-seen, lastTime, climb-told}
+use Rattle.demands.proofs.WalkTree.{not-or, field-rest, body-length, traf-faults, cut-fits, traf-walk, moof-walk, leaf-walk, first-seen, lastTime, climb-told}
 pub use Rattle.demands.proofs.LeafFacts.{leaf-ends, leaf-leaves, leaf-numbers}
 
 -- A number of the tree, where there are enough bytes.
@@ -108,14 +108,14 @@ module _ {X : Type 0} (f : Flow) (k : Gave → Flow → ℕ → List ℕ → Opt
 
   -- the version, and whether the length is that of the version
   version-clean : (pos end v m : ℕ) →
-      clean (versionFaults pos end v m) ≡ not (ltb 1 v) && not (eqb v 0 && not (eqb end (m + 7)) || eqb v 1 && not (eqb end (m + 11)))
-  unfolding versionFaults
+      clean (tfdtVersionFaults pos end v m) ≡ not (ltb 1 v) && not (eqb v 0 && not (eqb end (m + 7)) || eqb v 1 && not (eqb end (m + 11)))
+  unfolding tfdtVersionFaults
   version-clean pos end v m = simp (clean-append, clean-shows)
 
   -- what follows the version
   abbrev versioned : Bool → ℕ → ℕ → ℕ → ℕ → List ℕ → Option X
   versioned r pos end v n bs =
-      upon (unless (versionFaults pos end v n) (λ x. fail x (left f) n) (fieldD left plain (λ flags h m ds. widthD (eqb v 1) r pos h m ds) 3 0 f n bs)) k
+      upon (unless (tfdtVersionFaults pos end v n) (λ x. fail x (left f) n) (fieldD left plain (λ flags h m ds. widthD (eqb v 1) r pos h m ds) 3 0 f n bs)) k
 
   abbrev timedBy : Bool → ℕ → ℕ → List ℕ → ℕ → List ℕ → Option X
   timedBy r pos end ys w xs =
@@ -136,13 +136,13 @@ module _ {X : Type 0} (f : Flow) (k : Gave → Flow → ℕ → List ℕ → Opt
   version-tree : (r : Bool) (pos end v n : ℕ) (xs ys : List ℕ) → end ≡ n + length xs → versioned r pos end v n (xs ++ ys) ≡ andThen (timeBytes v) (λ w. timedBy r pos end ys w xs)
   unfolding timeBytes andThen pick widthD
   version-tree r pos end zero n xs ys e =
-      upon-unless (versionFaults pos end 0 n) (left f) n _ k
+      upon-unless (tfdtVersionFaults pos end 0 n) (left f) n _ k
       ∙ rw (version-clean pos end 0 n, not-or (eqb end (n + 7))) (version-length r pos end 4 n false (eqb end (n + 7)) xs ys (λ m bs. refl) e refl)
   version-tree r pos end (suc zero) n xs ys e =
-      upon-unless (versionFaults pos end 1 n) (left f) n _ k
-      ∙ rw (version-clean pos end 1 n, not-not (eqb end (n + 11))) (version-length r pos end 8 n true (eqb end (n + 11)) xs ys (λ m bs. refl) e refl)
+      upon-unless (tfdtVersionFaults pos end 1 n) (left f) n _ k
+      ∙ rw (version-clean pos end 1 n, Bool·not-not (eqb end (n + 11))) (version-length r pos end 8 n true (eqb end (n + 11)) xs ys (λ m bs. refl) e refl)
   version-tree r pos end (suc (suc v)) n xs ys e =
-      upon-unless (versionFaults pos end (suc (suc v)) n) (left f) n _ k
+      upon-unless (tfdtVersionFaults pos end (suc (suc v)) n) (left f) n _ k
       ∙ rw (version-clean pos end (suc (suc v)) n, lt-ltb 1 (suc (suc v)) (omega arith), ne-eqb (suc (suc v)) 0 (λ q. omega arith), ne-eqb (suc (suc v)) 1 (λ q. omega arith))
 
   -- `tfdt`

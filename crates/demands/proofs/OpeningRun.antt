@@ -1,12 +1,11 @@
 -- The boxes up to the top index by structure are those boxes read byte by byte.
-use Prim.Native.Nat.{ℕ, zero, suc, _+_, _-_, _≤_, _<_}
+use Prim.Native.Nat.{ℕ, zero, suc, _-_, _≤_, _<_}
 use mathlib.Core.Path.{_≡_, refl, ap, sym, _∙_}
-use mathlib.Core.List.{List, [], _∷_}
-use mathlib.Core.Bool.{Bool, true, false, _||_}
+use mathlib.Core.List.{List}
+use mathlib.Core.Bool.{Bool, false, _||_}
 use native.Mathlib.Omega.{arith}
 use lib.Dec.{eqb}
 use lib.ListN.{length}
-use Rattle.basics.specs.Choose.{pick}
 use Rattle.basics.proofs.Picks.{pick-both}
 use Rattle.segment.specs.Constants.{styp, sidx}
 use Rattle.machine.specs.Run.{Sub, go, done, lift, Res, okay, after, contBy, run, cont, fieldD, plain}
@@ -16,7 +15,7 @@ use Rattle.machine.specs.declared.Header.{Header}
 use Rattle.machine.specs.declared.Head.the-variants as at
 use Rattle.machine.proofs.Faults.{unless-both}
 use Rattle.machine.proofs.Runs.{inside}
-use Rattle.machine.proofs.Fields.{field-within, field-run, skip-run}
+use Rattle.machine.proofs.Fields.{field-within, skip-run}
 use Rattle.machine.proofs.Lists.{boxes-run}
 use Rattle.state.specs.declared.Span.{Span}
 use Rattle.state.specs.declared.Index.{Index}

@@ -28,6 +28,7 @@ use Rattle.state.specs.declared.Index.{Index}
 use Rattle.state.specs.Flow.{Flow, Left, left}
 use Rattle.state.specs.Rows.{is, bodyLength, topLengths, openingFaults}
 use Rattle.state.specs.Sidx.{Place, topmost, sumFaults}
+use Rattle.state.proofs.Cuts.{bytes-first}
 use Rattle.state.specs.Opening.{Opened, passed, indexed, spanOf, openingBox, closeOpening, opening}
 use Rattle.descent.specs.Sidx.{sidxD}
 use Rattle.descent.specs.Opening.{skipTo, stypD, openingBodyD, openingD}
@@ -114,15 +115,11 @@ bodyIn (some b) = b .body
 abbrev pub topBody : List ℕ → tree.Opened → List ℕ
 topBody bs top = bodyIn (firstBox (drop (topEnd (length bs) top - top .size) bs))
 
--- bytes, of which some are left out, or with others before them
+-- bytes, of which some are left out
 pub all-drop : (m : ℕ) (bs : List ℕ) → AllBytes bs → AllBytes (drop m bs)
 all-drop zero bs a = a
 all-drop (suc m) [] a = a
 all-drop (suc m) (b ∷ bs) a = all-drop m bs (a .1)
-
-pub all-left : (xs ys : List ℕ) → AllBytes (xs ++ ys) → AllBytes xs
-all-left [] ys a = tt
-all-left (x ∷ xs) ys a = (a .0, all-left xs ys (a .1))
 
 -- What is known of a top index found in bytes.
 pub record Topped (bs : List ℕ) (top : tree.Opened) : Type 0 where
@@ -139,7 +136,7 @@ pub record Topped (bs : List ℕ) (top : tree.Opened) : Type 0 where
 
 -- the body of the box that bytes start with
 pub body-bytes : (xs : List ℕ) (b : Box) → firstBox xs ≡ some b → AllBytes xs → AllBytes (b .body)
-body-bytes xs b e a = all-left (b .body) (drop (b .size) xs) (rw (first-box xs b e .inside) at (all-drop (headLength b) xs a))
+body-bytes xs b e a = bytes-first (b .body) (drop (b .size) xs) (rw (first-box xs b e .inside) at (all-drop (headLength b) xs a))
 
 -- a header's body length is the length of the body
 pub body-long : (n : ℕ) (xs : List ℕ) (b : Box) → FirstBox xs b → bodyLength (headerOf n b) ≡ length (b .body)

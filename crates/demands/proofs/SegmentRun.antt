@@ -1,17 +1,17 @@
 -- The segment by structure is the segment read byte by byte.
-use Prim.Native.Nat.{ℕ, zero, suc, _+_, _-_, _*_, _≤_, _<_}
+use Prim.Native.Nat.{ℕ, zero, suc, _+_, _-_, _≤_, _<_}
 use mathlib.Core.Path.{_≡_, refl, ap, sym, _∙_}
-use mathlib.Core.List.{List, [], _∷_, _++_}
+use mathlib.Core.List.{List, [], _∷_}
 use mathlib.Core.Option.{Option, some, none}
 use mathlib.Core.Bool.{Bool, true, false, not, true≢false, _&&_}
 use mathlib.Core.Logic.{⊎-elim}
 use native.Mathlib.Omega.{arith}
-use lib.Dec.{eqb, ltb, leb}
+use lib.Dec.{eqb, leb}
 use lib.ListN.{length}
 use borrow.Author.Tests.{eq-eqb, ne-eqb}
 use Rattle.basics.specs.Choose.{pick}
 use Rattle.basics.proofs.Picks.{lt-or-ge, pick-yes, pick-no, pick-both}
-use Rattle.segment.specs.Constants.{levelBytes, entryBytes, sidx, styp, levels as mostLevels}
+use Rattle.segment.specs.Constants.{sidx, styp, levels as mostLevels}
 use Rattle.machine.specs.Faults.{shows, unless}
 use Rattle.machine.specs.Run.{Sub, go, done, bad, lift, Res, okay, fail, cut, either, after, contBy, run, cont}
 use Rattle.machine.specs.Heads.{boxEnd, sizeFaults, headD}
@@ -23,7 +23,6 @@ use Rattle.machine.proofs.Faults.{unless-both, none-first, none-second, shows-n
 use Rattle.machine.proofs.Runs.{inside, after-cong, after-assoc, after-okay, consumed-run}
 use Rattle.machine.proofs.Fields.{skip-run}
 use Rattle.machine.proofs.Lists.{box-run, boxes-run}
-use Rattle.state.specs.declared.Span.{Span}
 use Rattle.state.specs.declared.Seen.{Seen}
 use Rattle.state.specs.declared.Top.{Top}
 use Rattle.state.specs.declared.Level.{Level}
@@ -31,7 +30,6 @@ use Rattle.state.specs.declared.Levels.{Levels}
 use Rattle.state.specs.declared.Levels.the-variants as levels
 use Rattle.state.specs.declared.Slot.{Slot}
 use Rattle.state.specs.declared.Index.{Index}
-use Rattle.state.specs.declared.Sidx.{Sidx}
 use Rattle.state.specs.declared.GapBoxes.{GapBoxes}
 use Rattle.state.specs.declared.GapBoxes.the-variants as gaps
 use Rattle.state.specs.declared.OpeningBoxes.{OpeningBoxes}
@@ -46,10 +44,10 @@ use Rattle.state.specs.Opening.{spanOf, stepOpening}
 use Rattle.state.specs.Sidx.{under, sidxStart, stepSidx}
 use Rattle.state.specs.Leaf.{leafSo0, stepLeaf}
 use Rattle.state.specs.Levels.{Entry, entryAt, entryPlace, inmost, depth, took, tookEntry, push, passedAll, stillOne, stillTwo, stillThree, stillOpen, entryFaults, slotOf}
-use Rattle.state.specs.Stages.{gapKind, gapBoxes, wrapGap, stepGap, onward, follow, topOf, topLevel, indexEnds, InnerBody, innerKind, beginInner, wrapInner, innerLevel, liftInner, stepInner, leafRow, liftLeaf, stepInLeaf, stepSlot, stepEntry, stepStage}
+use Rattle.state.specs.Stages.{gapKind, gapBoxes, wrapGap, stepGap, onward, follow, topOf, topLevel, indexEnds, InnerBody, innerKind, beginInner, wrapInner, innerLevel, liftInner, stepInner, leafRow, liftLeaf, stepSlot, stepEntry, stepStage}
 use Rattle.state.specs.Step.{stage0}
 use Rattle.descent.specs.Sidx.{sidxD}
-use Rattle.descent.specs.Opening.{openingD, skipTo}
+use Rattle.descent.specs.Opening.{skipTo}
 use Rattle.descent.specs.Leaf.{leafD}
 use Rattle.descent.specs.Whole.{gapD, Under, innerD, slotD, readBackD, entryD, entriesD, underD, materialD, segmentD}
 use Rattle.demands.proofs.SidxRun.{sidx-run}

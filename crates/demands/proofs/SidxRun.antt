@@ -1,17 +1,16 @@
 -- An index box by structure is the index box read byte by byte.
 use Prim.Native.Nat.{ℕ, zero, suc, _+_, _*_}
 use mathlib.Core.Path.{_≡_, refl, ap, sym, _∙_}
-use mathlib.Core.List.{List, [], _∷_}
-use mathlib.Core.Bool.{Bool, true, false, not, true≢false, _||_}
+use mathlib.Core.List.{List, []}
+use mathlib.Core.Bool.{false, not, true≢false, _||_}
 use native.Mathlib.Omega.{arith}
 use lib.Dec.{eqb, ltb}
 use borrow.Author.Tests.{eq-eqb, ne-eqb}
-use Rattle.basics.specs.Choose.{pick}
 use Rattle.basics.proofs.Picks.{pick-yes, pick-no}
 use Rattle.basics.proofs.Tests.{or-neither}
 use Rattle.segment.specs.Constants.{entryBytes, mostEntries}
-use Rattle.machine.specs.Faults.{shows, unless}
-use Rattle.machine.specs.Run.{Sub, go, done, bad, Res, okay, fail, cut, contBy, run, cont, fieldD, plain}
+use Rattle.machine.specs.Faults.{shows}
+use Rattle.machine.specs.Run.{Sub, go, Res, contBy, cont, fieldD, plain}
 use Rattle.machine.proofs.Faults.{unless-both, unless-with, none-second, shows-none}
 use Rattle.machine.proofs.Fields.{field-run}
 use Rattle.state.specs.declared.Span.{Span}
@@ -25,7 +24,7 @@ use Rattle.state.specs.declared.EntryPart.the-variants as entry
 use Rattle.state.specs.declared.Sidx.{Sidx}
 use Rattle.state.specs.declared.Sidx.the-variants as sidx
 use Rattle.state.specs.Flow.{Flow, Left, left}
-use Rattle.state.specs.Sidx.{Place, draft0, sidxStart, versionFaults, idFaults, scaleFaults, timeFaults, offsetFaults, countFaults, sumFaults, wideMore, indexOf, closeSidx, fieldEnds, sizeFaults, plusSize, plusDuration, nextEntry, entryEnds, keepByte, stepSidx}
+use Rattle.state.specs.Sidx.{Place, draft0, sidxStart, sidxVersionFaults, idFaults, scaleFaults, timeFaults, offsetFaults, countFaults, sumFaults, wideMore, indexOf, closeSidx, fieldEnds, entrySizeFaults, plusSize, plusDuration, nextEntry, entryEnds, keepByte, stepSidx}
 use Rattle.descent.specs.Sidx.{closeD, entryD, entriesD, countedD, countD, reservedD, offsetD, timeD, scaleD, idD, flagsD, versionD, sidxD}
 
 module _ (p : Place) (span : Span) where
@@ -59,7 +58,7 @@ module _ (p : Place) (span : Span) where
   unfolding entryD entryEnds contBy
   one-entry d s more law f n bs =
       word entry.Size d s _
-      (λ v g m cs. unless-both (λ r. r) (X m cs) _ _ _ _ (sizeFaults span v) (λ x. refl)
+      (λ v g m cs. unless-both (λ r. r) (X m cs) _ _ _ _ (entrySizeFaults span v) (λ x. refl)
       (word entry.Duration d (plusSize s v) _ (λ u h k ds. word entry.Sap d (plusDuration (plusSize s v) u) _ (λ sap i l es. law (plusDuration (plusSize s v) u) i l es refl refl sap) h k ds) g m cs))
       f n bs
 
@@ -126,7 +125,7 @@ module _ (p : Place) (span : Span) where
   version-run : (d : Draft) (v : ℕ) (f : Flow) (n : ℕ) (bs : List ℕ) → versionD p span v f n bs ≡ X n bs (fieldEnds p span part.Version d v f n)
   unfolding versionD fieldEnds contBy
   version-run d v f n bs =
-      unless-both (λ r. r) (X n bs) _ _ _ _ (versionFaults span v n) (λ x. refl)
+      unless-both (λ r. r) (X n bs) _ _ _ _ (sidxVersionFaults span v n) (λ x. refl)
       (let d' : Draft = record { wide = eqb v 1; id = 0; scale = 0; time = 0; offset = 0 } in field part.Flags d' (flagsD p span d') (flags-run d') 2 f n bs)
 
   -- the body of an index

@@ -9,11 +9,11 @@ use native.Mathlib.Omega.{arith}
 use lib.Dec.{eqb, ltb}
 use lib.ListN.{length, take, drop, length-append, length-drop, take-append-drop, drop-of-length-le}
 use lib.Seq.{take-append-le, drop-append-le, drop-drop, take-add, take-all, length-take-le}
-use borrow.Author.Tests.{not-true, not-false, ltb-false, eqb-true, eqb-false, eq-eqb, ne-eqb, le-ltb}
+use borrow.Author.Tests.{not-true, not-false, ltb-false, eqb-true, eqb-false, ne-eqb, le-ltb}
 use Rattle.basics.specs.Choose.{pick, andThen}
 use Rattle.basics.specs.Bytes.{numberFrom, number}
 use Rattle.basics.proofs.Picks.{lt-or-ge, pick-with}
-use Rattle.basics.proofs.Tests.{and-both, or-neither}
+use Rattle.basics.proofs.Tests.{and-both, or-neither, same-test}
 use Rattle.basics.proofs.Options.{then-cong, then-none, then-assoc, then-inv, then-pick, pick-then, pick-some, pick-else, absurd-some}
 use Rattle.segment.specs.Constants.{entryBytes, mostEntries, levelBytes}
 use Rattle.segment.specs.Boxes.{provided, unless, Field, field, Entry, entryOf, entriesOf, sizes, durations, timeBytes, sidxIndex}
@@ -34,7 +34,7 @@ use Rattle.state.specs.declared.Index.{Index}
 use Rattle.state.specs.declared.EntryPart.{EntryPart}
 use Rattle.state.specs.declared.EntryPart.the-variants as entry
 use Rattle.state.specs.Flow.{Flow, Left, left, putAll}
-use Rattle.state.specs.Sidx.{Place, topmost, under, partOf, versionFaults, idFaults, scaleFaults, timeFaults, offsetFaults, countFaults, sumFaults, wideMore, indexOf, sizeOf, sizeFaults, plusSize, plusDuration, nextEntry, wordPlace, keepByte}
+use Rattle.state.specs.Sidx.{Place, topmost, under, partOf, sidxVersionFaults, idFaults, scaleFaults, timeFaults, offsetFaults, countFaults, sumFaults, wideMore, indexOf, sizeOf, entrySizeFaults, plusSize, plusDuration, nextEntry, wordPlace, keepByte}
 use Rattle.descent.specs.Sidx.{closeD, entryD, entriesD, countedD, countD, reservedD, offsetD, timeD, scaleD, idD, flagsD, versionD, sidxD}
 use Rattle.demands.specs.Told.{upon, clean, indexFrom, entryPart, withEntries, suits}
 use Rattle.demands.proofs.Upons.{upon-unless, upon-okay, clean-append, clean-shows, upon-field}
@@ -90,14 +90,6 @@ upon-shows false number' pos l n r k o e = e
 upon-then : {R X : Type 0} (xs : List Refusal) (l : Left) (n : ℕ) (r : Res R Flow Left) (k : R → Flow → ℕ → List ℕ → Option X) (o : Option X) → upon r k ≡ o →
     upon (faults.unless xs (λ x. fail x l n) r) k ≡ pick (clean xs) o none
 upon-then xs l n r k o e = upon-unless xs l n r k ∙ ap (λ z. pick (clean xs) z none) e
-
--- two tests of equality that come to one
-pub same-test : (a b c d : ℕ) → (a ≡ b → c ≡ d) → (c ≡ d → a ≡ b) → eqb a b ≡ eqb c d
-same-test a b c d f g = at (eqb c d) refl
-  where
-    at : (t : Bool) → eqb c d ≡ t → eqb a b ≡ t
-    at true e = eq-eqb a b (g (eqb-true c d e))
-    at false e = ne-eqb a b (λ q. eqb-false c d e (f q))
 
 -- the count's tests, of the reader and of the tree
 count-tests : {X : Type 0} (zero' many fits : Bool) (a b : Option X) → (zero' ≡ false → fits ≡ true → a ≡ b) →
@@ -381,8 +373,8 @@ scale-some (under top slot around) span v e =
     (sym (clean-append (shows (eqb v 0) 11 (span .pos)) (shows (not (eqb v (top .scale))) 12 (span .pos))) ∙ e) .0)
 
 -- the version's faults: a version above 1, or version 1 in a box that is too short
-version-clean : (span : Span) (v n : ℕ) → clean (versionFaults span v n) ≡ not (ltb 1 v) && not (eqb v 1 && ltb (span .end) (n + 31))
-unfolding versionFaults
+version-clean : (span : Span) (v n : ℕ) → clean (sidxVersionFaults span v n) ≡ not (ltb 1 v) && not (eqb v 1 && ltb (span .end) (n + 31))
+unfolding sidxVersionFaults
 version-clean span v n =
     clean-append (shows (ltb 1 v) 10 (span .pos)) (shows (eqb v 1 && ltb (span .end) (n + 31)) 6 (span .pos))
     ∙ rw (clean-shows (ltb 1 v) 10 (span .pos), clean-shows (eqb v 1 && ltb (span .end) (n + 31)) 6 (span .pos))
@@ -630,8 +622,8 @@ module _ {X : Type 0} (p : Place) (span : Span) (h : Index → Flow → ℕ → 
   unfolding sidxD versionD pick
   body-tree f n xs ys e l =
       upon-here (versionD p span) 1 f n xs ys (omega arith)
-      ∙ upon-unless (versionFaults span (versionHere xs) (n + 1)) _ _ _ h
-      ∙ at (clean (versionFaults span (versionHere xs) (n + 1))) (version-clean span (versionHere xs) (n + 1))
+      ∙ upon-unless (sidxVersionFaults span (versionHere xs) (n + 1)) _ _ _ h
+      ∙ at (clean (sidxVersionFaults span (versionHere xs) (n + 1))) (version-clean span (versionHere xs) (n + 1))
     where
       at : (c : Bool) → c ≡ not (ltb 1 (versionHere xs)) && not (wideHere xs && ltb (span .end) (n + 1 + 31)) →
           pick c (upon (fieldD left plain (flagsD p span (record { wide = wideHere xs; id = 0; scale = 0; time = 0; offset = 0 })) 3 0 f (n + 1) (drop 1 xs ++ ys)) h) none
@@ -648,8 +640,8 @@ sidx-tree p span f n xs ys k e l = body-tree p span k f n xs ys e l
 abbrev Other : Refusal → Type 0
 Other x = x .number ≢ 15
 
-version-other : (span : Span) (v n : ℕ) → Each Other (versionFaults span v n)
-unfolding versionFaults
+version-other : (span : Span) (v n : ℕ) → Each Other (sidxVersionFaults span v n)
+unfolding sidxVersionFaults
 version-other span v n = each-append Other _ _ (each-shows Other _ 10 _ (omega arith)) (each-shows Other _ 6 _ (omega arith))
 
 id-other : (p : Place) (span : Span) (v : ℕ) → Each Other (idFaults p span v)
@@ -725,7 +717,7 @@ module _ (p : Place) (span : Span) (all : ℕ) where
   unfolding entryD
   entry-told more s f n bs q h =
       word-told entry.Size s _ f n bs q
-      (λ v g m cs e q1. faults-told (sizeFaults span v) _ m _ (each-shows Other _ 11 _ (omega arith))
+      (λ v g m cs e q1. faults-told (entrySizeFaults span v) _ m _ (each-shows Other _ 11 _ (omega arith))
       (λ z. word-told entry.Duration (plusSize s v) _ g m cs q1
       (λ u g' m' cs' e' q2. word-told entry.Sap (plusDuration (plusSize s v) u) _ g' m' cs' q2
       (λ w g'' m'' cs'' e'' q3. h (plusDuration (plusSize s v) u) g'' m'' cs'' (omega arith) q3))))
@@ -770,7 +762,7 @@ module _ (p : Place) (span : Span) (all : ℕ) where
 
   version-told : Reads (versionD p span)
   unfolding versionD
-  version-told v f n bs q = faults-told (versionFaults span v n) _ n _ (version-other span v n) (λ z. number-told _ (flags-told _) 3 0 f n bs q)
+  version-told v f n bs q = faults-told (sidxVersionFaults span v n) _ n _ (version-other span v n) (λ z. number-told _ (flags-told _) 3 0 f n bs q)
 
   sidx-told : (f : Flow) (n : ℕ) (bs : List ℕ) → n + length bs ≡ all → Told (sidxD p span f n bs)
   unfolding sidxD

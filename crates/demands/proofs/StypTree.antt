@@ -9,10 +9,11 @@ use mathlib.Core.Logic.{_⊎_, inl, inr}
 use lib.ListN.{length, take, drop, length-append, length-drop}
 use lib.Seq.{take-append-le, drop-append-le}
 use lib.Dec.{eqb, ltb}
-use borrow.Author.Tests.{eqb-true, eqb-false, eq-eqb, ne-eqb, le-ltb, lt-ltb, ltb-true, ltb-false}
+use borrow.Author.Tests.{eqb-true, eq-eqb, ne-eqb, lt-ltb, ltb-true, ltb-false}
 use Rattle.basics.specs.Choose.{pick, andThen}
 use Rattle.basics.specs.Bytes.{number}
 use Rattle.basics.proofs.Picks.{pick-yes, pick-no, pick-if, lt-or-ge}
+use Rattle.basics.proofs.Tests.{same-test}
 use Rattle.basics.proofs.Options.{then-cong, then-assoc}
 use Rattle.segment.specs.Boxes.{among, Field, field, words, stypBrands}
 use Rattle.machine.specs.Run.{Res, okay, fieldD, plain}
@@ -21,25 +22,17 @@ use Rattle.state.specs.Flow.{Flow, Left, left}
 use Rattle.state.specs.Opening.{Opened, passed, unlisted}
 use Rattle.descent.specs.Opening.{brandsD, stypD}
 use Rattle.demands.specs.Told.{upon, clean}
+use Rattle.demands.proofs.Stored.{field-some}
 use Rattle.demands.proofs.Upons.{upon-unless, clean-shows, upon-field, upon-few}
 
--- a number that the bytes have
-pub field-some : (width : ℕ) (xs : List ℕ) → width ≤ length xs → field width xs ≡ some (record { value = number (take width xs); rest = drop width xs })
-unfolding field
-field-some width xs l = pick-no (ltb (length xs) width) none _ (le-ltb (length xs) width l)
-
--- a number that they do not have
+-- a number that the bytes do not have
 pub field-none : (width : ℕ) (xs : List ℕ) → length xs < width → field width xs ≡ none
 unfolding field
 field-none width xs l = pick-yes (ltb (length xs) width) none _ (lt-ltb (length xs) width l)
 
 -- which of two numbers is named first does not matter
 eqb-sym : (a b : ℕ) → eqb a b ≡ eqb b a
-eqb-sym a b = at (eqb b a) refl
-  where
-    at : (t : Bool) → eqb b a ≡ t → eqb a b ≡ t
-    at true e = eq-eqb a b (sym (eqb-true b a e))
-    at false e = ne-eqb a b (λ q. eqb-false b a e (sym q))
+eqb-sym a b = same-test a b b a sym sym
 
 -- a brand found before, or here, or later
 found-more : (found here : Bool) (more : Bool) → (found || here) || more ≡ found || pick here true more

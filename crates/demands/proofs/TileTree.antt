@@ -1,33 +1,31 @@
 -- The entries of an index, read by structure, come to what the tree says of them.
-use Prim.Native.Nat.{ℕ, zero, suc, _+_, _-_, _*_, _≤_, _<_}
+use Prim.Native.Nat.{ℕ, suc, _+_, _-_, _*_, _≤_, _<_}
 use mathlib.Core.Path.{_≡_, refl, ap, sym, subst, _∙_}
 use mathlib.Core.Logic.{_≢_}
 use mathlib.Core.List.{List, [], _∷_, _++_, append-assoc}
 use mathlib.Core.Option.{Option, some, none}
-use mathlib.Core.Bool.{Bool, true, false, not, true≢false, _&&_, _||_}
+use mathlib.Core.Bool.{Bool, true, false, not, true≢false}
 use native.Mathlib.Omega.{arith}
-use lib.Dec.{eqb, ltb, leb}
+use lib.Dec.{eqb}
 use lib.ListN.{length, take, drop, take-append-drop, length-drop}
 use lib.Seq.{length-take-le}
 use borrow.Author.Tests.{eq-eqb, ne-eqb, le-ltb, lt-leb}
 use Rattle.basics.specs.Choose.{pick, andThen}
-use Rattle.basics.proofs.Picks.{pick-yes, pick-no}
 use Rattle.segment.specs.Constants.{workBytes, levelBytes, entryBytes, mostEntries}
 use Rattle.segment.specs.Boxes as tree
 use Rattle.segment.specs.Boxes.{sizes, durations}
 use Rattle.segment.specs.Leaves.{leafTimes}
 use Rattle.segment.specs.Tree as tree'
 use Rattle.segment.specs.Tree.{Item, itemOf, firstTime, entryItems, tile}
-use Rattle.machine.specs.Faults.{shows, refusal, unless}
-use Rattle.machine.specs.Run.{Res, okay, fail, cut, either, after}
-use Rattle.machine.specs.declared.Refusal.{Refusal}
+use Rattle.machine.specs.Faults.{shows, unless}
+use Rattle.machine.specs.Run.{after}
 use Rattle.state.specs.declared.Seen.{Seen}
 use Rattle.state.specs.declared.Top.{Top}
 use Rattle.state.specs.declared.Level.{Level}
 use Rattle.state.specs.declared.Slot.{Slot}
-use Rattle.state.specs.Flow.{Flow, Left, left, withNow, listed}
+use Rattle.state.specs.Flow.{Flow, withNow, listed}
 use Rattle.state.specs.Rows.{noRoom}
-use Rattle.state.specs.Levels.{Entry, entryAt, altered, entryFaults, slotOf, took}
+use Rattle.state.specs.Levels.{Entry, entryAt, altered, slotOf, took}
 use Rattle.state.specs.Stages.{innerLevel, leafRow}
 use Rattle.descent.specs.Leaf.{leafD}
 use Rattle.descent.specs.Whole.{Under, innerD, slotD, readBackD, entryD, entriesD}

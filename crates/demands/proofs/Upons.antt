@@ -1,17 +1,17 @@
 -- Laws of what is made of an accepted reading.
-use Prim.Native.Nat.{ℕ, zero, suc, _+_, _≤_, _<_}
-use mathlib.Core.Path.{_≡_, refl, ap, sym, _∙_}
+use Prim.Native.Nat.{ℕ, _+_, _≤_, _<_}
+use mathlib.Core.Path.{_≡_, refl, ap}
 use mathlib.Core.List.{List, [], _∷_, _++_}
-use mathlib.Core.Option.{Option, some, none}
+use mathlib.Core.Option.{Option, none}
 use mathlib.Core.Bool.{Bool, true, false, not, _&&_}
 use native.Mathlib.Omega.{arith}
 use lib.ListN.{length, take, drop}
-use Rattle.basics.specs.Choose.{pick, andThen}
+use Rattle.basics.specs.Choose.{pick}
 use Rattle.basics.specs.Bytes.{numberFrom}
 use Rattle.machine.specs.Faults.{shows, unless}
-use Rattle.machine.specs.Run.{Res, okay, fail, cut, either, after, fieldD, plain, skipD}
+use Rattle.machine.specs.Run.{Res, okay, fail, cut, either, after, fieldD, plain}
 use Rattle.machine.specs.declared.Refusal.{Refusal}
-use Rattle.machine.proofs.Fields.{field-take, field-short, skip-take, skip-short}
+use Rattle.machine.proofs.Fields.{field-take, field-short}
 use Rattle.state.specs.Flow.{Flow, Left, left}
 use Rattle.demands.specs.Told.{upon, clean}
 

@@ -3,7 +3,7 @@ use Prim.Native.Nat.{ℕ, zero, suc, _+_, _-_, _%_, _≤_, _<_}
 use mathlib.Core.Path.{_≡_, refl, ap, sym, _∙_}
 use mathlib.Core.List.{List, [], _∷_, _++_}
 use mathlib.Core.Option.{Option, some, none}
-use mathlib.Core.Bool.{Bool, true, false, not, _&&_, _||_}
+use mathlib.Core.Bool.{Bool, true, false, not, _&&_, _||_, Bool·not-not}
 use native.Mathlib.Omega.{arith}
 use lib.Dec.{eqb, ltb}
 use lib.ListN.{length, take, drop, length-take, length-drop}
@@ -322,14 +322,10 @@ unfolding andThen nonEmpty pick climb
 some-time last [] h = refl
 some-time last (t ∷ ts) h = then-cong (climb (leafSo0 last .seen) (t ∷ ts)) _ _ (λ s e. rw (climb-first (leafSo0 last .seen) t ts s refl e .0))
 
-pub not-not : (t : Bool) → not (not t) ≡ t
-not-not true = refl
-not-not false = refl
-
 -- what a leaf with room lacks
 pub leaf-lacks : (slot : Slot) (f : Flow) (so : LeafSo) → noRoom (f .leaves) (f .table) ≡ false → clean (leafLacks slot so (left f)) ≡ so .seen .any
 unfolding leafLacks
-leaf-lacks slot f so room = simp (clean-append, clean-shows, room) (not-not (so .seen .any))
+leaf-lacks slot f so room = simp (clean-append, clean-shows, room) (Bool·not-not (so .seen .any))
 
 -- The boxes of a leaf with room.
 pub leaf-walk : {X : Type 0} (id : ℕ) (slot : Slot) (f : Flow) → noRoom (f .leaves) (f .table) ≡ false → (last pos : ℕ) (bs : List Box) (h : Seen → Option X) →
@@ -506,7 +502,7 @@ module _ (id : ℕ) where
   unfolding walk trafItem pick trafNow
   box-tfdt so pos b bs e l =
       rw (traf-faults (so .track) (headerOf pos b), body-length b l, e)
-      (gate (length (b .body)) _ (headedTrack (so .track)) (tfdtTime (b .body)) _ _ (tfdt-few (b .body)) (not-not (headedTrack (so .track))))
+      (gate (length (b .body)) _ (headedTrack (so .track)) (tfdtTime (b .body)) _ _ (tfdt-few (b .body)) (Bool·not-not (headedTrack (so .track))))
 
   module _ {X : Type 0} (q : ℕ) (h : Seen → Option X) where
     -- the known boxes that may follow, in each of the three states of a `traf`

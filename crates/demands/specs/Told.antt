@@ -1,11 +1,11 @@
 -- What is made of a reading by structure when it is held beside the tree: whether it is accepted, and with what.
-use Prim.Native.Nat.{ℕ, zero, suc, _+_, _-_, _*_}
+use Prim.Native.Nat.{ℕ, _-_, _*_}
 use mathlib.Core.List.{List, [], _∷_}
 use mathlib.Core.Option.{Option, some, none}
 use mathlib.Core.Bool.{Bool, true, false, _&&_}
 use lib.Dec.{ltb}
 use lib.ListN.{length, drop}
-use Rattle.basics.specs.Choose.{pick, andThen}
+use Rattle.basics.specs.Choose.{pick}
 use Rattle.segment.specs.Constants.{entryBytes}
 use Rattle.segment.specs.Boxes.{Box, sizes, durations}
 use Rattle.segment.specs.Boxes as tree
@@ -18,7 +18,7 @@ use Rattle.state.specs.declared.Span.{Span}
 use Rattle.state.specs.declared.Index.{Index}
 use Rattle.state.specs.Flow.{Flow, Left, putAll}
 use Rattle.state.specs.Traf.{saw}
-use Rattle.state.specs.Sidx.{Place, topmost, under, partOf, idFaults, scaleFaults, timeFaults, offsetFaults, sumFaults}
+use Rattle.state.specs.Sidx.{Place, partOf, idFaults, scaleFaults, timeFaults, offsetFaults, sumFaults}
 
 -- what is made of an accepted reading; nothing where it was refused or cut off
 unfoldable pub upon : {R X : Type 0} → Res R Flow Left → (R → Flow → ℕ → List ℕ → Option X) → Option X

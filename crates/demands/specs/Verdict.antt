@@ -1,6 +1,6 @@
 -- What a reading with a leaf table comes to, and what the tree says it should come to: fine with what it gives, full at the first leaf
 -- beyond the room, or wrong.
-use Prim.Native.Nat.{ℕ, zero, suc, _+_, _*_}
+use Prim.Native.Nat.{ℕ, suc, _+_, _*_}
 use mathlib.Core.Path.{_≡_}
 use mathlib.Core.List.{List, [], _∷_}
 use mathlib.Core.Option.{Option, some, none}

@@ -1,6 +1,6 @@
 -- A leaf by structure: a list of boxes, in which a `moof` is a list of boxes, in which a `traf` is one.
-use Prim.Native.Nat.{ℕ, zero, suc, _-_}
-use mathlib.Core.List.{List, [], _∷_}
+use Prim.Native.Nat.{ℕ}
+use mathlib.Core.List.{List, []}
 use mathlib.Core.Bool.{Bool, true, false}
 use lib.Dec.{eqb}
 use lib.ListN.{length}
@@ -15,12 +15,10 @@ use Rattle.state.specs.declared.Span.{Span}
 use Rattle.state.specs.declared.Seen.{Seen}
 use Rattle.state.specs.declared.Slot.{Slot}
 use Rattle.state.specs.declared.Track.{Track}
-use Rattle.state.specs.declared.TrafSo.{TrafSo}
-use Rattle.state.specs.declared.LeafSo.{LeafSo}
 use Rattle.state.specs.Flow.{Flow, Left, left}
 use Rattle.state.specs.Rows.{is}
 use Rattle.state.specs.Opening.{spanOf}
-use Rattle.state.specs.Traf.{Gave, nothing, headed, timed, versionFaults, reference, trafSo0, trafNext, trafBoxes}
+use Rattle.state.specs.Traf.{Gave, nothing, headed, timed, tfdtVersionFaults, reference, trafSo0, trafNext, trafBoxes}
 use Rattle.state.specs.Leaf.{Passed, skipped, seeing, moofNext, moofBoxes, leafBoxes, leafSo0}
 use Rattle.descent.specs.Opening.{skipTo}
 
@@ -42,7 +40,7 @@ unfoldable pub tfdtD : Bool → ℕ → ℕ → Flow → ℕ → List ℕ → Ga
 tfdtD r pos end f n bs =
     fieldD left plain
     (λ v g m cs.
-    unless (versionFaults pos end v m) (λ x. fail x (left g) m) (fieldD left plain (λ flags h k ds. widthD (eqb v 1) r pos h k ds) 3 0 g m cs))
+    unless (tfdtVersionFaults pos end v m) (λ x. fail x (left g) m) (fieldD left plain (λ flags h k ds. widthD (eqb v 1) r pos h k ds) 3 0 g m cs))
     1 0 f n bs
 
 unfoldable pub trafBodyD : ℕ → Track → Header → Flow → ℕ → List ℕ → Gave'
@@ -52,14 +50,16 @@ trafBodyD id t h f n bs =
 
 abbrev pub trafD : ℕ → Span → Seen → Flow → ℕ → List ℕ → Res Seen Flow Left
 trafD id span seen f n bs =
-    goOnD (trafBoxes id span) (λ so. trafBodyD id (so .track)) (boxesD (trafBoxes id span) (λ so. trafBodyD id (so .track)) (length bs)) (trafNext span (trafSo0 seen) [] n) f n bs
+    goOnD (trafBoxes id span) (λ so. trafBodyD id (so .track))
+    (boxesD (trafBoxes id span) (λ so. trafBodyD id (so .track)) (length bs)) (trafNext span (trafSo0 seen) [] n) f n bs
 
 unfoldable pub moofBodyD : ℕ → Seen → Header → Flow → ℕ → List ℕ → Res Passed Flow Left
 moofBodyD id seen h f n bs =
     pick (is h traf) (after (trafD id (spanOf h) seen f n bs) (λ s g m cs. okay (seeing s) g m cs)) (skipTo skipped (boxEnd h) f n bs)
 
 abbrev pub moofD : ℕ → ℕ → Seen → Flow → ℕ → List ℕ → Res Seen Flow Left
-moofD id end seen f n bs = goOnD (moofBoxes id end) (moofBodyD id) (boxesD (moofBoxes id end) (moofBodyD id) (length bs)) (moofNext end seen n) f n bs
+moofD id end seen f n bs =
+    goOnD (moofBoxes id end) (moofBodyD id) (boxesD (moofBoxes id end) (moofBodyD id) (length bs)) (moofNext end seen n) f n bs
 
 unfoldable pub leafBodyD : ℕ → Seen → Header → Flow → ℕ → List ℕ → Res Passed Flow Left
 leafBodyD id seen h f n bs =

@@ -1,7 +1,7 @@
 -- The boxes up to the top index, by structure.
 use Prim.Native.Nat.{ℕ, zero, suc, _-_}
-use mathlib.Core.List.{List, [], _∷_}
-use mathlib.Core.Bool.{Bool, true, false, _||_}
+use mathlib.Core.List.{List}
+use mathlib.Core.Bool.{Bool, false, _||_}
 use lib.Dec.{eqb}
 use lib.ListN.{length}
 use Rattle.basics.specs.Choose.{pick}
@@ -25,10 +25,10 @@ skipTo r stop f n bs = after (skipD left (stop - n) f n bs) (λ u g m cs. okay r
 
 -- compatible brands, to the end of the `styp`; each takes bytes, so that as many turns as there are bytes are enough
 unfoldable pub brandsD : ℕ → ℕ → Span → Bool → Flow → ℕ → List ℕ → Res Opened Flow Left
-brandsD zero brand span found f n bs = cut (left f) n
-brandsD (suc turns) brand span found f n bs =
-    pick (eqb n (span .end)) (unless (unlisted span found) (λ x. fail x (left f) n) (okay passed f n bs))
-    (fieldD left plain (λ v g m cs. brandsD turns brand span (found || eqb v brand) g m cs) 4 0 f n bs)
+brandsD zero brand span listed f n bs = cut (left f) n
+brandsD (suc turns) brand span listed f n bs =
+    pick (eqb n (span .end)) (unless (unlisted span listed) (λ x. fail x (left f) n) (okay passed f n bs))
+    (fieldD left plain (λ v g m cs. brandsD turns brand span (listed || eqb v brand) g m cs) 4 0 f n bs)
 
 -- `styp`: major brand, minor version, compatible brands
 unfoldable pub stypD : ℕ → Span → Flow → ℕ → List ℕ → Res Opened Flow Left

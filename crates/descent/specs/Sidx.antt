@@ -1,7 +1,6 @@
 -- An index box by structure: its numbers one after the other, then its entries. The tests are those of the byte definition.
-use Prim.Native.Nat.{ℕ, zero, suc, _+_}
-use mathlib.Core.List.{List, [], _∷_}
-use mathlib.Core.Bool.{Bool, true, false}
+use Prim.Native.Nat.{ℕ, zero, suc}
+use mathlib.Core.List.{List}
 use lib.Dec.{eqb}
 use Rattle.machine.specs.Faults.{unless}
 use Rattle.machine.specs.Run.{Res, okay, fail, fieldD, plain}
@@ -11,7 +10,7 @@ use Rattle.state.specs.declared.Sums.{Sums}
 use Rattle.state.specs.declared.Index.{Index}
 use Rattle.state.specs.declared.EntryPart.the-variants as entry
 use Rattle.state.specs.Flow.{Flow, Left, left}
-use Rattle.state.specs.Sidx.{Place, draft0, versionFaults, idFaults, scaleFaults, timeFaults, offsetFaults, countFaults, sumFaults, wideMore, indexOf, sizeFaults, plusSize, plusDuration, nextEntry, keepByte}
+use Rattle.state.specs.Sidx.{Place, sidxVersionFaults, idFaults, scaleFaults, timeFaults, offsetFaults, countFaults, sumFaults, wideMore, indexOf, entrySizeFaults, plusSize, plusDuration, nextEntry, keepByte}
 
 abbrev Res' : Type 0
 Res' = Res Index Flow Left
@@ -25,7 +24,7 @@ module _ (p : Place) (span : Span) where
   entryD more s f n bs =
       fieldD left (keepByte p entry.Size s)
       (λ word g m cs.
-      unless (sizeFaults span word) (λ x. fail x (left g) m)
+      unless (entrySizeFaults span word) (λ x. fail x (left g) m)
       (fieldD left (keepByte p entry.Duration (plusSize s word))
       (λ duration h k ds.
       fieldD left (keepByte p entry.Sap (plusDuration (plusSize s word) duration)) (λ sap i l es. more (plusDuration (plusSize s word) duration) i l es) 4 0 h k ds)
@@ -73,7 +72,7 @@ module _ (p : Place) (span : Span) where
 
   unfoldable pub versionD : ℕ → Flow → ℕ → List ℕ → Res'
   versionD v f n bs =
-      unless (versionFaults span v n) (λ x. fail x (left f) n)
+      unless (sidxVersionFaults span v n) (λ x. fail x (left f) n)
       (fieldD left plain (flagsD (record { wide = eqb v 1; id = 0; scale = 0; time = 0; offset = 0 })) 3 0 f n bs)
 
   -- the body of a `sidx`

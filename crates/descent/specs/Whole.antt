@@ -11,7 +11,6 @@ use Rattle.machine.specs.Run.{Res, okay, fail, cut, after}
 use Rattle.machine.specs.Heads.{boxEnd}
 use Rattle.machine.specs.Lists.{boxD, boxesD}
 use Rattle.machine.specs.Limit.{beyond}
-use Rattle.machine.specs.declared.Header.{Header}
 use Rattle.state.specs.declared.Top.{Top}
 use Rattle.state.specs.declared.Level.{Level}
 use Rattle.state.specs.declared.Slot.{Slot}

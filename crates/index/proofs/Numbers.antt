@@ -18,7 +18,7 @@ use Rattle.state.specs.declared.EntryPart.the-variants as entry
 use Rattle.state.specs.declared.Sidx.{Sidx}
 use Rattle.state.specs.declared.Sidx.the-variants as sidx
 use Rattle.state.specs.Sidx.{partOf, wordPlace, bytePlace, wideMore}
-use Rattle.state.specs.Ranges.{Within, spelled, indexMost, sidxBounds, sized, lasted}
+use Rattle.state.specs.Ranges.{Within, spelled, indexMost, sidxBounds, sizesRead, durationsRead}
 use Rattle.state.proofs.RangeTests.{spelled-last}
 use Rattle.index.specs.declared.Where.{Where}
 use Rattle.index.specs.declared.Where.the-variants as places
@@ -112,7 +112,7 @@ module _ {s : Sidx} {i : EntryPart} {d : Draft} {sums : Sums} {more acc : ℕ} (
   entry-ended v ev em = rw ev (spelled-last 3 acc b hb (rw em at entry-spelled))
 
 sums-fit : (i : EntryPart) (d : Draft) (sums : Sums) (more acc : ℕ) → Within (sidxBounds (sidx.Entry i d sums more acc)) → Summed sums
-unfolding sidxBounds sized lasted
+unfolding sidxBounds sizesRead durationsRead
 sums-fit entry.Size d sums more acc w = omega arith
 sums-fit entry.Duration d sums more acc w = omega arith
 sums-fit entry.Sap d sums more acc w = omega arith

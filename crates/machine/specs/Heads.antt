@@ -25,14 +25,17 @@ sizeFaults end h = shows (ltb (h .size) (h .head)) 4 (h .pos) ++ shows (ltb end 
 abbrev pub header : ℕ → ℕ → ℕ → ℕ → Header
 header pos kind size head = record { pos = pos; kind = kind; size = size; head = head }
 
--- where a box ends, and how long its body is
+-- where a box ends: the place after its last byte
 abbrev pub boxEnd : Header → ℕ
 boxEnd h = h .pos + h .size
 
 module _ {F L : Type 0} (left : F → L) (end : ℕ) where
   -- size and type are read
   unfoldable pub sized : ℕ → ℕ → ℕ → F → Sub Head Header F L
-  sized pos size kind f = pick (eqb size 1) (unless (underSixteen end pos) (λ x. bad x (left f)) (go (at.Large pos kind 7 0) f)) (done (header pos kind size 8) f)
+  sized pos size kind f =
+      pick (eqb size 1)
+      (unless (underSixteen end pos) (λ x. bad x (left f)) (go (at.Large pos kind 7 0) f))
+      (done (header pos kind size 8) f)
 
   unfoldable pub stepHead : Head → F → ℕ → ℕ → Sub Head Header F L
   stepHead at.First f n b = unless (underEight end n) (λ x. bad x (left f)) (go (at.Size n 2 b) f)
@@ -46,7 +49,10 @@ module _ {F L : Type 0} (left : F → L) (end : ℕ) where
   -- by structure
   unfoldable pub sizedD : ℕ → ℕ → ℕ → F → ℕ → List ℕ → Res Header F L
   sizedD pos size kind f n bs =
-      pick (eqb size 1) (unless (underSixteen end pos) (λ x. fail x (left f) n) (fieldD left plain (λ large g m cs. okay (header pos kind large 16) g m cs) 8 0 f n bs)) (okay (header pos kind size 8) f n bs)
+      pick (eqb size 1)
+      (unless (underSixteen end pos) (λ x. fail x (left f) n)
+      (fieldD left plain (λ large g m cs. okay (header pos kind large 16) g m cs) 8 0 f n bs))
+      (okay (header pos kind size 8) f n bs)
 
   unfoldable pub headD : F → ℕ → List ℕ → Res Header F L
   headD f n [] = cut (left f) n

@@ -1,6 +1,6 @@
 -- A box over any body, and a list of boxes over any box; byte by byte, and by structure.
 use Prim.Native.Nat.{ℕ, zero, suc, _+_}
-use mathlib.Core.List.{List, [], _∷_, _++_}
+use mathlib.Core.List.{List, _++_}
 use Rattle.machine.specs.Faults.{unless, lowest}
 use Rattle.machine.specs.Run.{Sub, go, done, bad, lift, Res, okay, fail, cut, either, after}
 use Rattle.machine.specs.Heads.{sizeFaults, stepHead, headD}

@@ -57,12 +57,12 @@ unfolding
     StepLeaf.seenNow StepLeaf.beginMoof StepLeaf.stepMoofBody StepLeaf.moofNext StepLeaf.stepMoof StepLeaf.beginLeaf StepLeaf.stepLeafBody StepLeaf.leafNow StepLeaf.leafLacks StepLeaf.leafNext StepLeaf.stepLeaf
     Levels.entryAt Levels.inmost Levels.depth Levels.tookEntry Levels.push Levels.stillOne Levels.stillTwo Levels.stillThree Levels.stillOpen Levels.altered
     StepOpening.brandsFrom StepOpening.stypEnds StepOpening.beginOpening StepOpening.stepOpeningBody StepOpening.closeOpening StepOpening.stepOpening
-    Ranges.within Ranges.headBounds Ranges.trafMost Ranges.trafBodyBounds Ranges.trafBounds Ranges.moofBodyBounds Ranges.moofBounds Ranges.leafBodyBounds Ranges.leafBounds Ranges.indexMost Ranges.scaleLeast Ranges.sized Ranges.lasted Ranges.sidxBounds Ranges.openingBodyBounds Ranges.openingBounds Ranges.gapBounds Ranges.levelsBounds Ranges.innerBounds Ranges.stageBounds Ranges.bounds
+    Ranges.within Ranges.headBounds Ranges.trafMost Ranges.trafBodyBounds Ranges.trafBounds Ranges.moofBodyBounds Ranges.moofBounds Ranges.leafBodyBounds Ranges.leafBounds Ranges.indexMost Ranges.scaleLeast Ranges.sizesRead Ranges.durationsRead Ranges.sidxBounds Ranges.openingBodyBounds Ranges.openingBounds Ranges.gapBounds Ranges.levelsBounds Ranges.innerBounds Ranges.stageBounds Ranges.bounds
     Rows.topLengths Rows.openingFaults Rows.gapFaults Rows.leafFaults Rows.innerFaults Rows.fresh Rows.headedTrack Rows.trafFaults
-    StepSidx.partOf StepSidx.versionFaults StepSidx.idFaults StepSidx.scaleFaults StepSidx.timeFaults StepSidx.offsetFaults StepSidx.countFaults StepSidx.sumFaults StepSidx.wideMore StepSidx.closeSidx StepSidx.fieldEnds StepSidx.entryEnds StepSidx.wordPlace StepSidx.stepSidx
+    StepSidx.partOf StepSidx.sidxVersionFaults StepSidx.idFaults StepSidx.scaleFaults StepSidx.timeFaults StepSidx.offsetFaults StepSidx.countFaults StepSidx.sumFaults StepSidx.wideMore StepSidx.closeSidx StepSidx.fieldEnds StepSidx.entryEnds StepSidx.wordPlace StepSidx.stepSidx
     Stages.gapNext Stages.stepGap Stages.indexEnds Stages.onward Stages.stepSlot Stages.stepEntry Stages.stepStage
     Step.settle Step.step Step.run
-    Traf.versionFaults Traf.reference Traf.fallFaults Traf.trafEnds Traf.beginTraf Traf.stepTrafBody Traf.saw Traf.trafNow Traf.lacking Traf.trafNext Traf.stepTraf
+    Traf.tfdtVersionFaults Traf.reference Traf.fallFaults Traf.trafEnds Traf.beginTraf Traf.stepTrafBody Traf.saw Traf.trafNow Traf.lacking Traf.trafNext Traf.stepTraf
 theBytes = tt
 
 -- the descent

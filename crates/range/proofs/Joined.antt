@@ -6,7 +6,7 @@ use mathlib.Core.Bool.{Bool, true, false, _&&_}
 use native.Mathlib.Omega.{arith}
 use lib.Dec.{leb}
 use borrow.Author.Tests.{le-leb, lt-leb}
-use Rattle.state.specs.Ranges.{Bound, atMost, below, within, spelled, trafMost, indexMost, sized, lasted}
+use Rattle.state.specs.Ranges.{Bound, atMost, below, within, spelled, trafMost, indexMost, sizesRead, durationsRead}
 use Rattle.state.specs.Sidx.{wideMore}
 use Rattle.state.specs.declared.TrafPart.{TrafPart}
 use Rattle.state.specs.declared.TrafPart.the-variants as trafPart
@@ -71,17 +71,17 @@ index-low part.Reserved w = omega arith
 index-low part.Count w = omega arith
 
 -- no more entries are in a sum than were begun
-pub sized-low : (e : EntryPart) (n : ℕ) → sized e n ≤ suc n
-unfolding sized
-sized-low entry.Size n = omega arith
-sized-low entry.Duration n = omega arith
-sized-low entry.Sap n = omega arith
+pub sizes-read-low : (e : EntryPart) (n : ℕ) → sizesRead e n ≤ suc n
+unfolding sizesRead
+sizes-read-low entry.Size n = omega arith
+sizes-read-low entry.Duration n = omega arith
+sizes-read-low entry.Sap n = omega arith
 
-pub lasted-low : (e : EntryPart) (n : ℕ) → lasted e n ≤ suc n
-unfolding lasted
-lasted-low entry.Size n = omega arith
-lasted-low entry.Duration n = omega arith
-lasted-low entry.Sap n = omega arith
+pub durations-read-low : (e : EntryPart) (n : ℕ) → durationsRead e n ≤ suc n
+unfolding durationsRead
+durations-read-low entry.Size n = omega arith
+durations-read-low entry.Duration n = omega arith
+durations-read-low entry.Sap n = omega arith
 
 -- a number below 8 that is none of 0 to 6
 above-three : (k : ℕ) → (k ≡ 0 → ⊥) → (k ≡ 1 → ⊥) → (k ≡ 2 → ⊥) → (k ≡ 3 → ⊥) → 3 < k

@@ -8,7 +8,7 @@ ghost use Rattle.state.specs.Levels.{depth, inmost};
 ghost use Rattle.state.specs.Sidx.{wideMore};
 ghost use Rattle.state.specs.declared.Levels.{Levels};
 ghost use Rattle.state.specs.Ranges.{atMost, below, within, spelled, headBounds, trafMost, trafBodyBounds, trafBounds, moofBodyBounds};
-ghost use Rattle.state.specs.Ranges.{moofBounds, leafBodyBounds, leafBounds, indexMost, scaleLeast, draftBounds, sized, lasted, sumsBounds};
+ghost use Rattle.state.specs.Ranges.{moofBounds, leafBodyBounds, leafBounds, indexMost, scaleLeast, draftBounds, sizesRead, durationsRead, sumsBounds};
 ghost use Rattle.state.specs.Ranges.{sidxBounds, openingBodyBounds, openingBounds, gapBounds, topBounds, levelBounds, levelsBounds};
 ghost use Rattle.state.specs.Ranges.{slotBounds, innerBounds, stageBounds, inRange};
 use machine::Head;
@@ -267,7 +267,7 @@ fn draft_fits(least: u64, d: Draft) -> bool
 // The entries whose size is in the sum.
 fn sizes_summed(e: EntryPart, next: u64) -> u64
     requires { ⌜ next < 1024 ⌝ }
-    ensures { λ r. ⌜ r ≡ sized e next ⌝ }
+    ensures { λ r. ⌜ r ≡ sizesRead e next ⌝ }
 {
     match e {
         EntryPart::Size => next,
@@ -279,7 +279,7 @@ fn sizes_summed(e: EntryPart, next: u64) -> u64
 // The entries whose duration is in the sum.
 fn durations_summed(e: EntryPart, next: u64) -> u64
     requires { ⌜ next < 1024 ⌝ }
-    ensures { λ r. ⌜ r ≡ lasted e next ⌝ }
+    ensures { λ r. ⌜ r ≡ durationsRead e next ⌝ }
 {
     match e {
         EntryPart::Size => next,

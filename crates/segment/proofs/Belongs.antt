@@ -3,27 +3,18 @@ use Prim.Native.Nat.{ℕ, _+_}
 use mathlib.Core.Path.{_≡_, ap}
 use mathlib.Core.List.{List}
 use mathlib.Core.Option.{some}
-use Rattle.basics.proofs.Options.{then-inv, pick-some, pick-else}
-use Rattle.segment.specs.Tree.{Opened, topIndex, material, Leaf, segment}
+use Rattle.segment.specs.Tree.{Leaf, segment}
 use Rattle.segment.specs.Parts.{Belongs}
-use Rattle.segment.proofs.Stands.{top-stands, index-end, material-stands}
+use Rattle.segment.proofs.Stands.{top-stands, index-end, material-stands, segment-made}
 use Rattle.segment.proofs.Ticks.{each-tick, no-tick-outside}
 use Rattle.segment.proofs.Bytes.{parts-listed, each-byte, no-byte-outside}
 use Rattle.segment.proofs.Contents.{part-bytes}
 
--- what an accepted segment opens with, and its material
-segment-opens : (brand : ℕ) (xs : List ℕ) (ls : List Leaf) → segment brand xs ≡ some ls → (top : Opened) × (ys : List ℕ) × (topIndex brand xs ≡ some top) × (material top ≡ some ys)
-unfolding segment
-segment-opens brand xs ls e =
-    let (short, e1) = pick-else _ _ ls e in
-    let (top, opened, e2) = then-inv _ _ ls e1 in
-    let (below, e3) = pick-some _ _ ls e2 in
-    let (ys, lies, e4) = then-inv _ _ ls e3 in
-    (top, ys, opened, lies)
-
 pub belongs : (brand : ℕ) (xs : List ℕ) (ls : List Leaf) → segment brand xs ≡ some ls → Belongs brand xs ls
 belongs brand xs ls accepted =
-    let (top, ys, opened, lies) = segment-opens brand xs ls accepted in
+    let m = segment-made brand xs ls accepted in
+    let top = m .top in
+    let opened = m .opened in
     let (ps, parted, leaves) = parts-listed brand xs ls accepted in
     let stands = top-stands brand xs top opened in
     record {
@@ -31,7 +22,7 @@ belongs brand xs ls accepted =
       opened = opened;
       stands = stands;
       start = ap (λ (n : ℕ). n + top .index .offset) (index-end xs top stands);
-      end = material-stands brand xs ys top opened lies .2;
+      end = material-stands brand xs (m .bytes) top opened (m .lies) .2;
       parts = ps;
       parted = parted;
       leaves = leaves;

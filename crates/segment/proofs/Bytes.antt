@@ -9,7 +9,7 @@ use lib.Dec.{eqb}
 use lib.ListN.{length, take, drop, length-drop}
 use lib.Seq.{length-take-le}
 use Rattle.basics.specs.Choose.{pick, andThen}
-use Rattle.basics.proofs.Options.{then-inv, pick-some, pick-else}
+use Rattle.basics.proofs.Options.{then-inv}
 use Rattle.segment.specs.Constants.{levels}
 use Rattle.segment.specs.Boxes.{Entry, sizes}
 use Rattle.segment.specs.Leaves.{leafTimes}
@@ -17,7 +17,7 @@ use Rattle.segment.specs.Tree.{Opened, topIndex, material, Leaf, Item, i
 use Rattle.segment.specs.Parts.{At, One, Part, leafPart, indexPart, positionOf, sizeOf, Holds, leavesIn, PartsUnder, entryParts, tileParts, underParts, segmentParts, materialStart}
 use Rattle.segment.proofs.Edges.{inner-says}
 use Rattle.segment.proofs.Spans.{EndToEnd, end-on, inside, one-has}
-use Rattle.segment.proofs.Stands.{material-stands, inner-rest}
+use Rattle.segment.proofs.Stands.{material-stands, inner-rest, segment-made}
 
 -- what follows an answer
 pub then-goes : {A B : Type 0} (o : Option A) (k : A → Option B) (a : A) → o ≡ some a → andThen o k ≡ k a
@@ -115,18 +115,14 @@ under-lies id scale (suc left) p s d ys ps h =
 
 -- An accepted segment has parts, and the leaves among them are its leaves.
 pub parts-listed : (brand : ℕ) (xs : List ℕ) (ls : List Leaf) → segment brand xs ≡ some ls → (ps : List Part) × (segmentParts brand xs ≡ some ps) × (leavesIn ps ≡ ls)
-unfolding segment segmentParts
+unfolding segmentParts
 parts-listed brand xs ls e =
-    let (short, e1) = pick-else _ _ ls e in
-    let (top, opened, e2) = then-inv _ _ ls e1 in
-    let (below, e3) = pick-some _ _ ls e2 in
-    let (ys, lies, e4) = then-inv _ _ ls e3 in
-    let (items, tiled, e5) = then-inv _ _ ls e4 in
-    let (never, e6) = pick-some _ _ ls e5 in
+    let m = segment-made brand xs ls e in
+    let top = m .top in
     let (ps, a, b) =
     tile-agree (top .index .id) (underIndex (top .index .id) (top .index .scale) (levels - 1)) (underParts (top .index .id) (top .index .scale) (levels - 1))
-    (under-agree (top .index .id) (top .index .scale) (levels - 1)) (length xs - length ys) (top .index .time) (top .index .entries) ys items tiled in
-    (ps, then-goes (topIndex brand xs) _ top opened ∙ then-goes (material top) _ ys lies ∙ a, b ∙ Option·some-injective _ _ e6)
+    (under-agree (top .index .id) (top .index .scale) (levels - 1)) (length xs - length (m .bytes)) (top .index .time) (top .index .entries) (m .bytes) (m .items) (m .tiled) in
+    (ps, then-goes (topIndex brand xs) _ top (m .opened) ∙ then-goes (material top) _ (m .bytes) (m .lies) ∙ a, b ∙ m .leaves)
 
 -- The parts lie end to end, from the start of the material to the end of the segment.
 parts-lie : (brand : ℕ) (xs : List ℕ) (top : Opened) (ps : List Part) → topIndex brand xs ≡ some top → segmentParts brand xs ≡ some ps → Lie (materialStart xs top) ps (length xs)

@@ -3,7 +3,7 @@
 use Prim.Native.Nat.{ℕ, zero, suc, _+_, _≤_, _<_}
 use mathlib.Core.Path.{_≡_, refl, sym, subst}
 use mathlib.Core.List.{List, [], _∷_, _++_, map}
-use mathlib.Core.Option.{Option, some, none, Option·some-injective, Option·none-ne-some}
+use mathlib.Core.Option.{some, Option·some-injective, Option·none-ne-some}
 use mathlib.Core.Bool.{Bool, true, false, true≢false}
 use native.Mathlib.Omega.{arith}
 use lib.Dec.{eqb, ltb, leb}
@@ -11,25 +11,10 @@ use lib.ListN.{length, take, drop}
 use borrow.Author.Tests.{eqb-true, eq-eqb, ltb-true, le-ltb, leb-true}
 use Rattle.basics.specs.Choose.{pick, andThen}
 use Rattle.basics.proofs.Picks.{pick-if}
-use Rattle.segment.specs.Boxes.{provided, unless, Entry, sizes, durations}
+use Rattle.basics.proofs.Options.{then-inv, pick-some, pick-else}
+use Rattle.segment.specs.Boxes.{Entry, sizes, durations}
 use Rattle.segment.specs.Leaves.{leafTimes}
 use Rattle.segment.specs.Tree.{Opened, topIndex, material, Leaf, covers, Item, itemOf, Under, entryItems, tile, innerIndex, underIndex, leafOf, segment}
-
--- where there is an answer, the tests held and there was an answer before
-then-some : {A B : Type 0} (o : Option A) (k : A → Option B) (b : B) → andThen o k ≡ some b → (a : A) × (o ≡ some a) × (k a ≡ some b)
-unfolding andThen
-then-some none k b e = absurd (Option·none-ne-some b e)
-then-some (some a) k b e = (a, refl, e)
-
-provided-some : {A : Type 0} (t : Bool) (o : Option A) (a : A) → provided t o ≡ some a → (t ≡ true) × (o ≡ some a)
-unfolding pick
-provided-some true o a e = (refl, e)
-provided-some false o a e = absurd (Option·none-ne-some a e)
-
-unless-some : {A : Type 0} (t : Bool) (o : Option A) (a : A) → unless t o ≡ some a → o ≡ some a
-unfolding pick
-unless-some true o a e = absurd (Option·none-ne-some a e)
-unless-some false o a e = e
 
 -- Rule 2. The material starts at the end of the top index plus its first offset, is as long as the sum of its entry sizes, and ends the
 -- segment: `rest` is what follows the box of the top index.
@@ -37,8 +22,8 @@ pub material-place : (top : Opened) (ys : List ℕ) → material top ≡ some ys
     (length (top .rest) ≡ top .index .offset + sizes (top .index .entries)) × (drop (top .index .offset) (top .rest) ≡ ys)
 unfolding material
 material-place top ys e =
-    let (fits, e') = provided-some _ _ ys e in
-    let (gap, e'', at) = then-some _ _ ys e' in
+    let (fits, e') = pick-some _ _ ys e in
+    let (gap, e'', at) = then-inv _ _ ys e' in
     (eqb-true _ _ fits, Option·some-injective _ _ at)
 
 -- Rule 4, all of it.
@@ -47,15 +32,15 @@ pub inner-says : (id scale start duration : ℕ) (xs : List ℕ) (inner : Opened
     × (durations (inner .index .entries) ≡ duration) × (inner .size + sizes (inner .index .entries) ≡ length xs)
 unfolding innerIndex
 inner-says id scale start duration xs inner e =
-    let (b, e1, e2) = then-some _ _ inner e in
-    let (e3, e4) = provided-some _ _ inner e2 in
-    let (o, e5, e6) = then-some _ _ inner e4 in
-    let (a1, f1) = provided-some _ _ inner e6 in
-    let (a2, f2) = provided-some _ _ inner f1 in
-    let (a3, f3) = provided-some _ _ inner f2 in
-    let (a4, f4) = provided-some _ _ inner f3 in
-    let (a5, f5) = provided-some _ _ inner f4 in
-    let (a6, f6) = provided-some _ _ inner f5 in
+    let (b, e1, e2) = then-inv _ _ inner e in
+    let (e3, e4) = pick-some _ _ inner e2 in
+    let (o, e5, e6) = then-inv _ _ inner e4 in
+    let (a1, f1) = pick-some _ _ inner e6 in
+    let (a2, f2) = pick-some _ _ inner f1 in
+    let (a3, f3) = pick-some _ _ inner f2 in
+    let (a4, f4) = pick-some _ _ inner f3 in
+    let (a5, f5) = pick-some _ _ inner f4 in
+    let (a6, f6) = pick-some _ _ inner f5 in
     subst
     (λ (i : Opened). (i .index .id ≡ id) × (i .index .scale ≡ scale) × (i .index .offset ≡ 0) × (i .index .time ≡ start)
     × (durations (i .index .entries) ≡ duration) × (i .size + sizes (i .index .entries) ≡ length xs))
@@ -89,7 +74,7 @@ module _ (track : ℕ) (under : Under) (follows : (p s d : ℕ) (ys : List ℕ) 
       at : (t : Bool) → pick t (andThen (leafTimes track xs) (λ times. some (itemOf position start e times ∷ []))) (under position start (e .duration) xs) ≡ some is →
           Follow start (map leafOf is) (start + e .duration)
       at true h =
-          let (times, p, q) = then-some _ _ is h in
+          let (times, p, q) = then-inv _ _ is h in
           subst (λ (js : List Item). Follow start (map leafOf js) (start + e .duration)) (Option·some-injective _ _ q) (refl, refl)
       at false h = follows position start (e .duration) xs is h
 
@@ -99,8 +84,8 @@ module _ (track : ℕ) (under : Under) (follows : (p s d : ℕ) (ys : List ℕ) 
   tile-follows position start [] xs is h =
       subst (λ (js : List Item). Follow start (map leafOf js) (start + 0)) (Option·some-injective _ _ h) (omega arith)
   tile-follows position start (e ∷ es) xs is h =
-      let (items, p, q) = then-some _ _ is h in
-      let (more, p', q') = then-some _ _ is q in
+      let (items, p, q) = then-inv _ _ is h in
+      let (more, p', q') = then-inv _ _ is q in
       let sum : start + e .duration + durations es ≡ start + (e .duration + durations es) = omega arith in
       subst (λ (js : List Item). Follow start (map leafOf js) (start + (e .duration + durations es))) (Option·some-injective _ _ q')
       (subst (λ (k : ℕ). Follow start (map leafOf (items ++ more)) k) sum
@@ -110,7 +95,7 @@ under-follows : (id scale left p s d : ℕ) (ys : List ℕ) (is : List Item) →
 unfolding underIndex
 under-follows id scale zero p s d ys is h = absurd (Option·none-ne-some is h)
 under-follows id scale (suc left) p s d ys is h =
-    let (inner, e, q) = then-some _ _ is h in
+    let (inner, e, q) = then-inv _ _ is h in
     subst (λ (k : ℕ). Follow s (map leafOf is) (s + k)) (inner-says id scale s d ys inner e .4)
     (tile-follows id _ (under-follows id scale left) (p + inner .size) s (inner .index .entries) (inner .rest) is q)
 
@@ -120,12 +105,12 @@ pub leaves-follow : (brand : ℕ) (xs : List ℕ) (ls : List Leaf) → segment b
     (top : Opened) × (topIndex brand xs ≡ some top) × Follow (top .index .time) ls (top .index .time + durations (top .index .entries))
 unfolding segment
 leaves-follow brand xs ls e =
-    let e1 = unless-some _ _ ls e in
-    let (top, opened, e2) = then-some _ _ ls e1 in
-    let (short, e3) = provided-some _ _ ls e2 in
-    let (ys, lies, e4) = then-some _ _ ls e3 in
-    let (items, tiled, e5) = then-some _ _ ls e4 in
-    let (never, e6) = provided-some _ _ ls e5 in (
+    let (limited, e1) = pick-else _ _ ls e in
+    let (top, opened, e2) = then-inv _ _ ls e1 in
+    let (short, e3) = pick-some _ _ ls e2 in
+    let (ys, lies, e4) = then-inv _ _ ls e3 in
+    let (items, tiled, e5) = then-inv _ _ ls e4 in
+    let (never, e6) = pick-some _ _ ls e5 in (
       top,
       opened,
       subst (λ (ms : List Leaf). Follow (top .index .time) ms (top .index .time + durations (top .index .entries))) (Option·some-injective _ _ e6)

@@ -14,7 +14,7 @@ use Rattle.segment.specs.Constants.{entryBytes, mostEntries, levels}
 use Rattle.segment.specs.Boxes.{provided, unless, Entry, entryOf, entriesOf, Index, sidxIndex}
 use Rattle.segment.specs.Leaves.{leafTimes}
 use Rattle.segment.specs.Tree.{Leaf, Item, itemOf, Under, entryItems, tile, innerIndex, underIndex, leafOf, segment}
-use Rattle.segment.proofs.Stands.{top-stands, inner-rest}
+use Rattle.segment.proofs.Stands.{top-stands, inner-rest, segment-made}
 
 entries-many : (n : ℕ) (xs : List ℕ) (es : List Entry) → entriesOf n xs ≡ some es → length es ≡ n
 unfolding entriesOf
@@ -89,16 +89,11 @@ under-some id scale (suc left) p s d ys is h =
 
 -- An accepted segment has a leaf.
 pub leaves-some : (brand : ℕ) (xs : List ℕ) (ls : List Leaf) → segment brand xs ≡ some ls → 0 < length ls
-unfolding segment
 leaves-some brand xs ls e =
-    let (short, e1) = pick-else _ _ ls e in
-    let (top, opened, e2) = then-inv _ _ ls e1 in
-    let (below, e3) = pick-some _ _ ls e2 in
-    let (ys, lies, e4) = then-inv _ _ ls e3 in
-    let (items, tiled, e5) = then-inv _ _ ls e4 in
-    let (never, e6) = pick-some _ _ ls e5 in
-    let stands = top-stands brand xs top opened in
-    subst (λ (ms : List Leaf). 0 < length ms) (Option·some-injective _ _ e6)
-    (rw (length-map items leafOf)
+    let m = segment-made brand xs ls e in
+    let top = m .top in
+    let stands = top-stands brand xs top (m .opened) in
+    subst (λ (ms : List Leaf). 0 < length ms) (m .leaves)
+    (rw (length-map (m .items) leafOf)
     (tile-some (top .index .id) (underIndex (top .index .id) (top .index .scale) (levels - 1)) (under-some (top .index .id) (top .index .scale) (levels - 1))
-    (length xs - length ys) (top .index .time) (top .index .entries) ys items (index-entries (stands .box .body) (top .index) (stands .says)) tiled))
+    (length xs - length (m .bytes)) (top .index .time) (top .index .entries) (m .bytes) (m .items) (index-entries (stands .box .body) (top .index) (stands .says)) (m .tiled)))

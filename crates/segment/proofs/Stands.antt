@@ -1,8 +1,8 @@
 -- Where boxes and indexes stand: a box ends within its bytes, the top index has a place in the segment, and what follows an index is
--- what follows its box.
+-- what follows its box. And what an accepted segment is made of.
 use Prim.Native.Nat.{ℕ, zero, suc, _+_, _-_, _≤_}
 use mathlib.Core.Path.{_≡_, refl, sym, ap, _∙_}
-use mathlib.Core.List.{List}
+use mathlib.Core.List.{List, map}
 use mathlib.Core.Option.{some, Option·some-injective, Option·none-ne-some}
 use mathlib.Core.Bool.{Bool, true, false}
 use native.Mathlib.Omega.{arith}
@@ -12,9 +12,9 @@ use lib.Seq.{drop-drop}
 use borrow.Author.Tests.{eqb-true, ltb-false}
 use Rattle.basics.specs.Choose.{pick, andThen}
 use Rattle.basics.proofs.Options.{then-inv, pick-some, pick-else}
-use Rattle.segment.specs.Constants.{sidx}
+use Rattle.segment.specs.Constants.{levels, sidx}
 use Rattle.segment.specs.Boxes.{unless, among, Field, field, Box, boxOf, firstBox, sidxIndex, sizes}
-use Rattle.segment.specs.Tree.{topKinds, Opened, openIndex, firstIndex, topIndex, material, innerIndex}
+use Rattle.segment.specs.Tree.{topKinds, Opened, openIndex, firstIndex, topIndex, material, Leaf, Item, tile, innerIndex, underIndex, leafOf, segment}
 use Rattle.segment.specs.Parts.{Stands, indexEnd, materialStart}
 use Rattle.segment.proofs.Edges.{material-place}
 
@@ -132,3 +132,25 @@ inner-rest id scale start duration xs inner e =
     let (a6, f6) = pick-some _ _ inner f5 in
     let (says, size, rest) = opened-box b xs inner (e4 ∙ f6) in
     (b, e1, eqb-true _ _ kind, says, sym size, rest ∙ ap (λ (n : ℕ). drop n xs) (sym size))
+
+-- What an accepted segment is made of: its top index, its material, and what the entries of that index give.
+pub record Made (brand : ℕ) (xs : List ℕ) (ls : List Leaf) : Type 0 where
+  pub top : Opened
+  pub bytes : List ℕ
+  pub items : List Item
+  pub opened : topIndex brand xs ≡ some top
+  pub lies : material top ≡ some bytes
+  pub tiled :
+      tile (top .index .id) (underIndex (top .index .id) (top .index .scale) (levels - 1)) (length xs - length bytes) (top .index .time) (top .index .entries) bytes ≡ some items
+  pub leaves : map leafOf items ≡ ls
+
+pub segment-made : (brand : ℕ) (xs : List ℕ) (ls : List Leaf) → segment brand xs ≡ some ls → Made brand xs ls
+unfolding segment
+segment-made brand xs ls e =
+    let (short, e1) = pick-else _ _ ls e in
+    let (top, opened, e2) = then-inv _ _ ls e1 in
+    let (below, e3) = pick-some _ _ ls e2 in
+    let (ys, lies, e4) = then-inv _ _ ls e3 in
+    let (items, tiled, e5) = then-inv _ _ ls e4 in
+    let (never, e6) = pick-some _ _ ls e5 in
+    record { top = top; bytes = ys; items = items; opened = opened; lies = lies; tiled = tiled; leaves = Option·some-injective _ _ e6 }

@@ -4,7 +4,6 @@ use mathlib.Core.List.{List, [], _∷_, _++_}
 use mathlib.Core.Option.{Option, some, none}
 use mathlib.Core.Bool.{Bool, true, false}
 use lib.Dec.{eqb, ltb}
-use lib.ListN.{length}
 use Rattle.basics.specs.Choose.{pick, andThen}
 use Rattle.segment.specs.Constants.{styp, sidx, moof, traf, tfhd, tfdt, tfad, mdat}
 use Rattle.segment.specs.Boxes.{provided, Box, boxes, only, without, tfhdTrack, tfdtTime}

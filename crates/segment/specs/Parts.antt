@@ -80,7 +80,8 @@ unfoldable pub segmentParts : ℕ → List ℕ → Option (List Part)
 segmentParts brand xs =
     andThen (topIndex brand xs) (λ top.
     andThen (material top) (λ ys.
-    tileParts (top .index .id) (underParts (top .index .id) (top .index .scale) (levels - 1)) (length xs - length ys) (top .index .time) (top .index .entries) ys))
+    tileParts (top .index .id) (underParts (top .index .id) (top .index .scale) (levels - 1))
+    (length xs - length ys) (top .index .time) (top .index .entries) ys))
 
 -- An index stands in a list of bytes: its box starts at `start`, is a `sidx` that says the index, and the bytes after it go to the end.
 pub record Stands (xs : List ℕ) (o : Opened) : Type 0 where
@@ -102,7 +103,8 @@ materialStart xs top = indexEnd xs top + top .index .offset
 
 -- What the bytes of a part read as: a leaf by rules 5 and 6, with its first decode time; one whole `sidx` box.
 abbrev pub ReadsAs : ℕ → List ℕ → Part → Type 0
-ReadsAs track xs (leafPart l) = (times : List ℕ) × (leafTimes track (take (l .size) (drop (l .position) xs)) ≡ some times) × (firstTime times ≡ l .time)
+ReadsAs track xs (leafPart l) =
+    (times : List ℕ) × (leafTimes track (take (l .size) (drop (l .position) xs)) ≡ some times) × (firstTime times ≡ l .time)
 ReadsAs track xs (indexPart position size) = (b : Box) × (firstBox (drop position xs) ≡ some b) × (b .kind ≡ sidx) × (b .size ≡ size)
 
 -- "Of an accepted segment each byte of the indexed material belongs to exactly one leaf or one inner index box; each tick from the stated

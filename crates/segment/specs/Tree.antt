@@ -2,7 +2,7 @@
 use Prim.Native.Nat.{ℕ, zero, suc, _+_, _-_}
 use mathlib.Core.List.{List, [], _∷_, _++_, map}
 use mathlib.Core.Option.{Option, some, none}
-use mathlib.Core.Bool.{Bool, true, false}
+use mathlib.Core.Bool.{Bool, false}
 use lib.Dec.{eqb, ltb, leb}
 use lib.ListN.{length, take, drop}
 use Rattle.basics.specs.Choose.{pick, andThen}
@@ -136,6 +136,7 @@ segment brand xs =
     (andThen (topIndex brand xs) (λ top.
     provided (ltb (top .index .time + durations (top .index .entries)) timeLimit)
     (andThen (material top) (λ ys.
-    andThen (tile (top .index .id) (underIndex (top .index .id) (top .index .scale) (levels - 1)) (length xs - length ys) (top .index .time) (top .index .entries) ys) (λ items.
+    andThen (tile (top .index .id) (underIndex (top .index .id) (top .index .scale) (levels - 1))
+    (length xs - length ys) (top .index .time) (top .index .entries) ys) (λ items.
     provided (neverFall 0 (allTimes items))
     (some (map leafOf items)))))))

@@ -93,7 +93,7 @@ unfolding trafEnds leftIn
 traf-ends-left id t (trafPart.HeadFlags end) v f n = refl
 traf-ends-left id t (trafPart.TrackId end) v f n = skip-left end f n (traffic.headed (eqb v id)) (trafs.Rest end (eqb v id))
 traf-ends-left id t (trafPart.Version pos end) v f n =
-    unless-left left (traffic.versionFaults pos end v n) f (go (trafs.Field (trafPart.TimeFlags pos (eqb v 1)) 2 0) f) refl
+    unless-left left (traffic.tfdtVersionFaults pos end v n) f (go (trafs.Field (trafPart.TimeFlags pos (eqb v 1)) 2 0) f) refl
 traf-ends-left id t (trafPart.TimeFlags pos true) v f n = refl
 traf-ends-left id t (trafPart.TimeFlags pos false) v f n = refl
 traf-ends-left id t (trafPart.Time pos) v f n = refl
@@ -168,7 +168,7 @@ close-left p span x f n = unless-left left (sumFaults p span x (f .now) n) f (do
 
 field-left : (p : Place) (span : Span) (i : IndexPart) (d : Draft) (v : ℕ) (f : Flow) (n : ℕ) → leftIn left (fieldEnds p span i d v f n) ≡ left f
 unfolding fieldEnds leftIn
-field-left p span part.Version d v f n = unless-left left (indexes.versionFaults span v n) f _ refl
+field-left p span part.Version d v f n = unless-left left (indexes.sidxVersionFaults span v n) f _ refl
 field-left p span part.Flags d v f n = refl
 field-left p span part.Id d v f n = unless-left left (indexes.idFaults p span v) f _ refl
 field-left p span part.Scale d v f n = unless-left left (indexes.scaleFaults p span v) f _ refl
@@ -179,7 +179,7 @@ field-left p span part.Count d v f n = unless-left left (indexes.countFaults spa
 
 entry-left : (p : Place) (span : Span) (e : EntryPart) (d : Draft) (s : Sums) (v : ℕ) (f : Flow) (n : ℕ) → leftIn left (entryEnds p span e d s v f n) ≡ left f
 unfolding entryEnds leftIn
-entry-left p span entry.Size d s v f n = unless-left left (indexes.sizeFaults span v) f _ refl
+entry-left p span entry.Size d s v f n = unless-left left (indexes.entrySizeFaults span v) f _ refl
 entry-left p span entry.Duration d s v f n = refl
 entry-left p span entry.Sap d s v f n = pick-left left (eqb (suc (s .next)) (s .count)) _ _ (left f) (close-left p span (indexOf d s) f n) refl
 

@@ -1,10 +1,9 @@
 -- The work area past its four levels: no byte is stored there.
 use Prim.Native.Nat.{ℕ, _+_, _*_, _≤_, _<_}
-use mathlib.Core.Path.{_≡_, refl, _∙_}
+use mathlib.Core.Path.{_≡_, refl}
 use mathlib.Core.List.{List, [], _∷_, _++_}
 use mathlib.Core.Option.{some, none}
 use mathlib.Core.Bool.{Bool, true, false}
-use mathlib.Core.Logic.{_↔_}
 use native.Mathlib.Omega.{arith}
 use lib.Dec.{eqb}
 use lib.ListN.{length, getD}
@@ -25,19 +24,15 @@ use Rattle.state.specs.declared.Stage.the-variants as stage
 use Rattle.state.specs.declared.State.{State}
 use Rattle.state.specs.Sidx.{Place, topmost, under, partOf, wordPlace, bytePlace}
 use Rattle.state.specs.Levels.{depth}
-use Rattle.state.specs.Step.{World, reading, ended, refused, step, run}
-use Rattle.state.specs.Ranges.{Bound, Within, sidxBounds, openingBodyBounds, openingBounds, topBounds, levelsBounds, slotBounds, innerBounds, stageBounds, bounds, inRange, InRange}
+use Rattle.state.specs.Step.{World, reading, ended, refused, step}
+use Rattle.state.specs.Ranges.{Within, sidxBounds, openingBodyBounds, openingBounds, topBounds, levelsBounds, slotBounds, innerBounds, stageBounds, bounds, InRange}
 use Rattle.state.specs.Calls.{stateOf, workOf, tableOf, feedOf}
 use Rattle.state.specs.Named.{sidxByte, openingBodyByte, openingByte, stageByte, entryByte, Spared}
 use Rattle.state.proofs.Frames.{work-length, feed-spared}
-use Rattle.state.proofs.Cuts.{back-state, fed-again, feed-inside}
+use Rattle.state.proofs.Cuts.{back-state, feed-inside}
 use Rattle.state.proofs.Kept.{feed-cases}
-use Rattle.state.proofs.RangeTests.{in-range}
+use Rattle.state.proofs.RangeTests.{in-range, within-second}
 use Rattle.state.proofs.Ranges.{step-kept}
-
-within-right : (xs ys : List Bound) → Within (xs ++ ys) → Within ys
-within-right [] ys h = h
-within-right (x ∷ xs) ys h = within-right xs ys (h .1)
 
 word-place : (e : EntryPart) → wordPlace e ≤ 8
 unfolding wordPlace
@@ -76,9 +71,9 @@ stage-place (stage.Leaf top ls slot s) now i h e = let z : _≡_ {A = ℕ} 0 1 =
 stage-place (stage.Inner top ls slot (inners.Head k)) now i h e = let z : _≡_ {A = ℕ} 0 1 = cc in absurd (omega arith)
 stage-place (stage.Inner top ls slot (inners.Body span s)) now i h e =
     let inner : Within (innerBounds ls (inners.Body span s)) =
-    within-right (slotBounds ls slot now) (innerBounds ls (inners.Body span s))
-    (within-right (levelsBounds ls) (slotBounds ls slot now ++ innerBounds ls (inners.Body span s))
-    (within-right (topBounds top) (levelsBounds ls ++ (slotBounds ls slot now ++ innerBounds ls (inners.Body span s))) h)) in
+    within-second (slotBounds ls slot now) (innerBounds ls (inners.Body span s))
+    (within-second (levelsBounds ls) (slotBounds ls slot now ++ innerBounds ls (inners.Body span s))
+    (within-second (topBounds top) (levelsBounds ls ++ (slotBounds ls slot now ++ innerBounds ls (inners.Body span s))) h)) in
     let deep : depth ls < 4 = inner .0 in
     let fits : i < levelBytes * depth ls + levelBytes = sidx-place (under top slot (depth ls)) s i (inner .1) e in
     omega arith

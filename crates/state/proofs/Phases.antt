@@ -128,8 +128,8 @@ unfolding fallFaults shows
 fall-of-reference last pos v = (λ low. rw (lt-ltb v last low), λ high. rw (le-ltb v last high), refl)
 
 -- Row 10: a version above 1 gives 10 alone, of a `tfdt` and of a `sidx`.
-pub version-alone : (span : Span) (pos end v n : ℕ) → 1 < v → (Trafs.versionFaults pos end v n ≡ refusal 10 pos ∷ []) × (Index.versionFaults span v n ≡ refusal 10 (span .pos) ∷ [])
-unfolding Trafs.versionFaults Index.versionFaults shows
+pub version-alone : (span : Span) (pos end v n : ℕ) → 1 < v → (Trafs.tfdtVersionFaults pos end v n ≡ refusal 10 pos ∷ []) × (Index.sidxVersionFaults span v n ≡ refusal 10 (span .pos) ∷ [])
+unfolding Trafs.tfdtVersionFaults Index.sidxVersionFaults shows
 version-alone span pos end v n high = (
   rw (lt-ltb 1 v high, ne-eqb v 0 (omega arith), ne-eqb v 1 (omega arith)),
   rw (lt-ltb 1 v high, ne-eqb v 1 (omega arith)),
@@ -137,9 +137,9 @@ version-alone span pos end v n high = (
 
 -- Row 6: the length of a `tfdt` is that of its version; byte n of the segment is its version byte.
 pub tfdt-length : (pos end n : ℕ) →
-    (end ≡ n + 7 → Trafs.versionFaults pos end 0 n ≡ []) × (end ≢ n + 7 → Trafs.versionFaults pos end 0 n ≡ refusal 6 pos ∷ [])
-    × (end ≡ n + 11 → Trafs.versionFaults pos end 1 n ≡ []) × (end ≢ n + 11 → Trafs.versionFaults pos end 1 n ≡ refusal 6 pos ∷ [])
-unfolding Trafs.versionFaults shows
+    (end ≡ n + 7 → Trafs.tfdtVersionFaults pos end 0 n ≡ []) × (end ≢ n + 7 → Trafs.tfdtVersionFaults pos end 0 n ≡ refusal 6 pos ∷ [])
+    × (end ≡ n + 11 → Trafs.tfdtVersionFaults pos end 1 n ≡ []) × (end ≢ n + 11 → Trafs.tfdtVersionFaults pos end 1 n ≡ refusal 6 pos ∷ [])
+unfolding Trafs.tfdtVersionFaults shows
 tfdt-length pos end n = (
   λ fits. rw (eq-eqb end (n + 7) fits),
   λ other. rw (ne-eqb end (n + 7) other),

@@ -9,7 +9,7 @@ use lib.Dec.{eqb}
 use Rattle.basics.specs.Choose.{pick}
 use Rattle.basics.proofs.Picks.{pick-holds}
 use Rattle.segment.specs.Constants.{limit, mostRecords}
-use Rattle.machine.specs.Faults.{refusal, shows, lowest, unless}
+use Rattle.machine.specs.Faults.{shows, lowest, unless}
 use Rattle.machine.specs.Run.{Sub, done, bad}
 use Rattle.machine.specs.Heads.{underEight, underSixteen, sizeFaults, sized, stepHead}
 use Rattle.machine.specs.Lists.{Box, inHead, inBody, Kind, faultsOf, liftBody, headed, stepBox, Next, again, over, Boxes, goOn, stepBoxes}

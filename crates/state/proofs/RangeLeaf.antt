@@ -41,7 +41,7 @@ use Rattle.state.specs.declared.LeafBoxes.the-variants as leafBox
 use Rattle.state.specs.Flow.{Flow, Left, left, room}
 use Rattle.state.specs.Rows.{is, topLengths, trafFaults, leafFaults, noRoom}
 use Rattle.state.specs.Opening.{spanOf}
-use Rattle.state.specs.Traf.{Gave, nothing, headed, timed, versionFaults, fallFaults, skipTraf, restFrom, trafEnds, beginTraf, stepTrafBody, trafNow, lacking, trafNext, trafBoxes, trafBox as trafKind, wrapTraf, stepTraf, trafSo0, beginTrafBoxes}
+use Rattle.state.specs.Traf.{Gave, nothing, headed, timed, tfdtVersionFaults, fallFaults, skipTraf, restFrom, trafEnds, beginTraf, stepTrafBody, trafNow, lacking, trafNext, trafBoxes, trafBox as trafKind, wrapTraf, stepTraf, trafSo0, beginTrafBoxes}
 use Rattle.state.specs.Leaf.{seeing, seenNow, skipMoof, liftTraf, beginMoof, stepMoofBody, moofKind, moofNext, moofBoxes, wrapMoof, stepMoof, beginMoofBoxes, skipLeaf, liftMoof, beginLeaf, stepLeafBody, leafKind, leafNow, leafLacks, leafNext, leafBoxes, wrapLeaf, stepLeaf}
 use Rattle.state.specs.Ranges.{Within, trafMost, trafBodyBounds, trafBounds, moofBodyBounds, moofBounds, leafBodyBounds, leafBounds}
 use Rattle.state.proofs.RangeTests.{spelled-first, spelled-next}
@@ -82,11 +82,11 @@ module _ (t : ℕ) where
   skip-traf stop f n k = pick-kept t trafBodyBounds Fine (leb stop n) _ _ k (tt, k)
 
   traf-ends : (id : ℕ) (tr : Track) (p : TrafPart) (v : ℕ) (f : Flow) (n : ℕ) → Flows t f → KeptIn t trafBodyBounds Fine (trafEnds id tr p v f n)
-  unfolding trafEnds trafBodyBounds trafMost versionFaults
+  unfolding trafEnds trafBodyBounds trafMost tfdtVersionFaults
   traf-ends id tr (part.HeadFlags end) v f n k = (spelled-first 3 3 (omega arith), k)
   traf-ends id tr (part.TrackId end) v f n k = rest-from end (eqb v id) f n k
   traf-ends id tr (part.Version pos end) v f n k =
-      unless-kept t trafBodyBounds Fine (versionFaults pos end v n) (left f) _ (both _ _ (shown _ 10 _ (omega arith)) (shown _ 6 _ (omega arith))) (k .0)
+      unless-kept t trafBodyBounds Fine (tfdtVersionFaults pos end v n) (left f) _ (both _ _ (shown _ 10 _ (omega arith)) (shown _ 6 _ (omega arith))) (k .0)
       (λ e. (spelled-first 2 2 (omega arith), k))
   traf-ends id tr (part.TimeFlags pos true) v f n k = (spelled-first 7 7 (omega arith), k)
   traf-ends id tr (part.TimeFlags pos false) v f n k = (spelled-first 7 3 (omega arith), k)

@@ -23,8 +23,8 @@ use Rattle.state.specs.declared.EntryPart.the-variants as entry
 use Rattle.state.specs.declared.Sidx.{Sidx}
 use Rattle.state.specs.declared.Sidx.the-variants as sidx
 use Rattle.state.specs.Flow.{Flow, left}
-use Rattle.state.specs.Sidx.{Place, topmost, under, sidxStart, versionFaults, idFaults, scaleFaults, timeFaults, offsetFaults, countFaults, sumFaults, wideMore, indexOf, closeSidx, fieldEnds, sizeFaults, entryEnds, keepByte, stepSidx}
-use Rattle.state.specs.Ranges.{Bound, atMost, below, Within, spelled, indexMost, scaleLeast, draftBounds, sized, lasted, sumsBounds, sidxBounds}
+use Rattle.state.specs.Sidx.{Place, topmost, under, sidxStart, sidxVersionFaults, idFaults, scaleFaults, timeFaults, offsetFaults, countFaults, sumFaults, wideMore, indexOf, closeSidx, fieldEnds, entrySizeFaults, entryEnds, keepByte, stepSidx}
+use Rattle.state.specs.Ranges.{Bound, atMost, below, Within, spelled, indexMost, scaleLeast, draftBounds, sizesRead, durationsRead, sumsBounds, sidxBounds}
 use Rattle.state.proofs.RangeTests.{within-append, within-first, spelled-first, spelled-next, spelled-last}
 use Rattle.state.proofs.RangeKept.{Numbered, Flows, KeptIn, shown, both, unless-kept}
 
@@ -42,8 +42,8 @@ unfolding sidxBounds scaleLeast indexMost
 sidx-starts = omega arith
 
 -- Faults of an index.
-version-faults : (span : Span) (v n : ℕ) → Each Numbered (versionFaults span v n)
-unfolding versionFaults
+version-faults : (span : Span) (v n : ℕ) → Each Numbered (sidxVersionFaults span v n)
+unfolding sidxVersionFaults
 version-faults span v n = both _ _ (shown _ 10 _ (omega arith)) (shown _ 6 _ (omega arith))
 
 id-faults : (p : Place) (span : Span) (v : ℕ) → Each Numbered (idFaults p span v)
@@ -104,9 +104,9 @@ module _ (t : ℕ) (p : Place) where
 
   field-ends : (span : Span) (i : IndexPart) (d : Draft) (v : ℕ) (f : Flow) (n : ℕ) → Within (draftBounds (scaleLeast i) d) → v < 256 ^ suc (indexMost i (d .wide)) → Flows t f →
       KeptIn t sidxBounds Read (fieldEnds p span i d v f n)
-  unfolding fieldEnds sidxBounds scaleLeast indexMost sized lasted
+  unfolding fieldEnds sidxBounds scaleLeast indexMost sizesRead durationsRead
   field-ends span part.Version d v f n w hv k =
-      unless-kept t sidxBounds Read (versionFaults span v n) (left f) _ (version-faults span v n) (k .0) (λ e. (omega arith, k))
+      unless-kept t sidxBounds Read (sidxVersionFaults span v n) (left f) _ (version-faults span v n) (k .0) (λ e. (omega arith, k))
   field-ends span part.Flags d v f n w hv k = ((w .0, (w .1 .0, (w .1 .1 .0, spelled-first 3 3 (omega arith)))), k)
   field-ends span part.Id d v f n w hv k =
       unless-kept t sidxBounds Read (idFaults p span v) (left f) _ (id-faults p span v) (k .0) (λ e. (omega arith, k))
@@ -126,9 +126,9 @@ module _ (t : ℕ) (p : Place) where
 
   entry-ends : (span : Span) (e : EntryPart) (d : Draft) (s : Sums) (v : ℕ) (f : Flow) (n : ℕ) → Within (draftBounds 1 d) → Within (sumsBounds e s) → v < wordLimit → Flows t f →
       KeptIn t sidxBounds Read (entryEnds p span e d s v f n)
-  unfolding entryEnds sidxBounds sized lasted
+  unfolding entryEnds sidxBounds sizesRead durationsRead
   entry-ends span entry.Size d s v f n w u hv k =
-      unless-kept t sidxBounds Read (sizeFaults span v) (left f) _ (shown _ 11 _ (omega arith)) (k .0) (λ e. (omega arith, k))
+      unless-kept t sidxBounds Read (entrySizeFaults span v) (left f) _ (shown _ 11 _ (omega arith)) (k .0) (λ e. (omega arith, k))
   entry-ends span entry.Duration d s v f n w u hv k = (omega arith, k)
   entry-ends span entry.Sap d s v f n w u hv k =
       pick-holds (KeptIn t sidxBounds Read) (eqb (suc (s .next)) (s .count)) _ _ (λ e. close-sidx span (indexOf d s) f n (omega arith) k)

@@ -11,7 +11,7 @@ use Rattle.basics.proofs.Picks.{pick-holds}
 use Rattle.basics.proofs.Tests.{and-not}
 use Rattle.segment.specs.Constants.{limit, levels as mostLevels, mostRecords, styp, sidx}
 use Rattle.machine.specs.Faults.{shows}
-use Rattle.machine.specs.Run.{Sub, go, done, bad}
+use Rattle.machine.specs.Run.{Sub, done, bad}
 use Rattle.machine.specs.Lists.{Box, inHead, inBody, stepBox}
 use Rattle.machine.specs.declared.Header.{Header}
 use Rattle.machine.specs.declared.Head.the-variants as at

@@ -1,15 +1,11 @@
 -- Start, feed and finish: what each answers, and what it leaves in state, work area and leaf table.
-use Prim.Native.Nat.{ℕ, zero, suc, _+_}
-use mathlib.Core.List.{List, [], _∷_}
-use mathlib.Core.Bool.{Bool, true, false}
+use Prim.Native.Nat.{ℕ}
+use mathlib.Core.List.{List}
 use lib.Dec.{ltb}
 use lib.ListN.{length}
 use Rattle.basics.specs.Choose.{pick}
 use Rattle.segment.specs.Constants.{workBytes}
 use Rattle.machine.specs.Faults.{refusal}
-use Rattle.machine.specs.declared.Refusal.{Refusal}
-use Rattle.state.specs.declared.Stage.{Stage}
-use Rattle.state.specs.declared.Top.{Top}
 use Rattle.state.specs.declared.State.{State}
 use Rattle.state.specs.declared.State.the-variants as state
 use Rattle.state.specs.declared.FeedAnswer.{FeedAnswer}
@@ -17,7 +13,7 @@ use Rattle.state.specs.declared.FeedAnswer.the-variants as feeds
 use Rattle.state.specs.declared.FinishAnswer.{FinishAnswer}
 use Rattle.state.specs.declared.FinishAnswer.the-variants as finishes
 use Rattle.state.specs.Flow.{Flow, Left}
-use Rattle.state.specs.Step.{World, reading, ended, refused, run, stage0, flow0}
+use Rattle.state.specs.Step.{World, reading, ended, refused, run, stage0}
 use Rattle.state.specs.Ranges.{inRange}
 
 -- what a call answers and leaves
@@ -30,7 +26,7 @@ pub record Out (A : Type 0) : Type 0 where
 abbrev pub out : {A : Type 0} → A → State → List ℕ → List ℕ → Out A
 out a s work table = record { answer = a; state = s; work = work; table = table }
 
--- a state with the two buffers lent to it, and back
+-- what flows from a state and the two buffers lent to it; and what a call leaves of it
 abbrev pub flowOf : ℕ → ℕ → ℕ → List ℕ → List ℕ → Flow
 flowOf leaves now last work table = record { leaves = leaves; now = now; last = last; work = work; table = table }
 
@@ -65,14 +61,14 @@ fed w = out (answerOf w) (stateOf w) (workOf w) (tableOf w)
 abbrev pub startOf : ℕ → State
 startOf brand = state.Reading 0 0 0 0 (stage0 brand)
 
--- the kept refusal, 22, then bytes
+-- the kept refusal, row 22, then bytes
 unfoldable pub feedState : State → List ℕ → List ℕ → List ℕ → Out FeedAnswer
 feedState (state.Reading n leaves now last s) piece work table = fed (run (reading n s (flowOf leaves now last work table)) piece)
 feedState (state.Ended n leaves top) piece work table = fed (run (ended n top (leftOf leaves work table)) piece)
 feedState (state.Refused n leaves x) piece work table = out (feeds.Refused x) (state.Refused n leaves x) work table
 feedState (state.Accepted n leaves top) piece work table = out (feeds.Refused (refusal 22 0)) (state.Accepted n leaves top) work table
 
--- "Feed checks 1, 2, the kept refusal, 22, then bytes."
+-- "Feed checks 1, 2, the kept refusal, 22, then bytes." Row 1: work area under 49,152 bytes; row 2: a number outside its range.
 unfoldable pub feedOf : State → List ℕ → List ℕ → List ℕ → Out FeedAnswer
 feedOf s piece work table =
     pick (ltb (length work) workBytes) (out (feeds.Refused (refusal 1 0)) s work table)
@@ -86,7 +82,7 @@ pub record Finished : Type 0 where
 abbrev pub finished : FinishAnswer → State → Finished
 finished a s = record { answer = a; state = s }
 
--- the kept refusal, 22, then 20: finish before the material's end; place is the count of bytes read
+-- the kept refusal, row 22, then row 20: finish before the material's end; place is the count of bytes read
 unfoldable pub finishState : State → Finished
 finishState (state.Reading n leaves now last s) = finished (finishes.Refused (refusal 20 n)) (state.Refused n leaves (refusal 20 n))
 finishState (state.Ended n leaves top) = finished (finishes.Listed leaves) (state.Accepted n leaves top)

@@ -1,12 +1,13 @@
 -- What flows through a reading beside its stage, and what a refusal leaves of it.
-use Prim.Native.Nat.{ℕ, zero, suc, _+_, _*_, _/_, _-_}
+use Prim.Native.Nat.{ℕ, suc, _*_, _/_}
 use mathlib.Core.List.{List, [], _∷_}
 use lib.Dec.{ltb}
 use lib.ListN.{length, set}
 use Rattle.basics.specs.Choose.{pick}
 use Rattle.segment.specs.Constants.{mostRecords, recordNumbers}
 
--- leaves listed, the time at which the next entry starts, the last decode time of the reference track in them, work area and leaf table
+-- What flows: leaves listed, the time at which the next entry starts, the last decode time of the reference track in them, work area
+-- and leaf table.
 pub record Flow : Type 0 where
   pub leaves : ℕ
   pub now : ℕ
@@ -14,6 +15,7 @@ pub record Flow : Type 0 where
   pub work : List ℕ
   pub table : List ℕ
 
+-- what a refusal leaves: leaves listed, work area and leaf table
 pub record Left : Type 0 where
   pub leaves : ℕ
   pub work : List ℕ
@@ -40,4 +42,5 @@ putAll table i (x ∷ xs) = putAll (set table i x) (suc i) xs
 
 -- a leaf is listed: its record is written, the time line goes on to its end, and its last decode time is the last
 unfoldable pub listed : Flow → List ℕ → ℕ → ℕ → Flow
-listed f row until last = record { leaves = suc (f .leaves); now = until; last = last; work = f .work; table = putAll (f .table) (recordNumbers * f .leaves) row }
+listed f row until last =
+    record { leaves = suc (f .leaves); now = until; last = last; work = f .work; table = putAll (f .table) (recordNumbers * f .leaves) row }

@@ -1,7 +1,7 @@
 -- A leaf: whole boxes, without `styp` or `sidx`, with a `moof` before any `mdat`; a `moof` holds `traf`.
-use Prim.Native.Nat.{ℕ, zero, suc, _+_}
-use mathlib.Core.List.{List, [], _∷_, _++_}
-use mathlib.Core.Bool.{Bool, true, false, not}
+use Prim.Native.Nat.{ℕ, suc, _+_}
+use mathlib.Core.List.{List, [], _++_}
+use mathlib.Core.Bool.{true, false, not}
 use lib.Dec.{eqb, leb}
 use Rattle.basics.specs.Choose.{pick}
 use Rattle.segment.specs.Constants.{moof, traf}

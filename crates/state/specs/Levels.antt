@@ -1,8 +1,8 @@
 -- Entries read back from the work area, and the indexes that stand open.
-use Prim.Native.Nat.{ℕ, zero, suc, _+_, _-_, _*_, _%_}
-use mathlib.Core.List.{List, [], _∷_}
+use Prim.Native.Nat.{ℕ, suc, _+_, _-_, _*_}
+use mathlib.Core.List.{List}
 use mathlib.Core.Option.{Option, some, none}
-use mathlib.Core.Bool.{Bool, true, false, not, _&&_, _||_}
+use mathlib.Core.Bool.{Bool, not, _&&_, _||_}
 use lib.Dec.{eqb, ltb, leb}
 use lib.ListN.{take, drop}
 use Rattle.basics.specs.Choose.{pick}
@@ -16,7 +16,7 @@ use Rattle.state.specs.declared.Levels.the-variants as levels
 use Rattle.state.specs.declared.Slot.{Slot}
 use Rattle.state.specs.Sidx.{sizeOf}
 
--- an entry as it stands in the work area: 12 bytes from a place on
+-- an entry as it stands in the work area, 12 bytes from a place on: whether it is of type 1, and its numbers
 pub record Entry : Type 0 where
   pub inner : Bool
   pub size : ℕ
@@ -43,11 +43,11 @@ depth (levels.Two a b) = 2
 depth (levels.Three a b c) = 3
 depth (levels.Four a b c d) = 4
 
--- "Level n's part of the work area": where the next entry of the innermost index is stored
+-- "at its place in its level's part": where the next entry of the innermost index is stored
 abbrev pub entryPlace : Levels → ℕ
 entryPlace ls = levelBytes * (depth ls - 1) + entryBytes * inmost ls .next
 
--- its next entry is taken
+-- the next entry of an index is taken
 abbrev pub took : Level → Level
 took l = record { next = suc (l .next); count = l .count; end = l .end; until = l .until }
 
@@ -83,15 +83,17 @@ stillOpen (levels.Two a b) = stillTwo a b
 stillOpen (levels.Three a b c) = stillThree a b c
 stillOpen (levels.Four a b c d) = pick (passedAll d) (stillThree a b c) (some (levels.Four a b c d))
 
--- row 12, an entry read back at byte n when the time line stands at `now`: its size is 0, its duration is more than what remains
+-- row 12: an entry read back at byte n when the time line stands at `now`: its size is 0, its duration is more than what remains
 -- of its index, its size is as much or more with entries still to follow, or, for the last entry, either is not all that remains
 unfoldable pub altered : Level → Entry → ℕ → ℕ → Bool
 altered l e now n =
     eqb (e .size) 0
     || ltb (l .until) (now + e .duration)
-    || pick (eqb (suc (l .next)) (l .count)) (not (eqb (n + e .size) (l .end) && eqb (now + e .duration) (l .until))) (leb (l .end) (n + e .size))
+    || pick (eqb (suc (l .next)) (l .count))
+    (not (eqb (n + e .size) (l .end) && eqb (now + e .duration) (l .until)))
+    (leb (l .end) (n + e .size))
 
--- (entry's first byte; place that byte)
+-- row 12: a stored entry altered between calls (entry's first byte; place that byte; no other number there)
 abbrev pub entryFaults : Level → Entry → ℕ → ℕ → List Refusal
 entryFaults l e now n = shows (altered l e now n) 12 n
 

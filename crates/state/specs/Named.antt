@@ -31,7 +31,7 @@ sidxByte p (sidx.Entry e d s more acc) = some (bytePlace p e s more)
 
 unfoldable pub openingBodyByte : OpeningBody → Option ℕ
 openingBodyByte (openings.Skip stop) = none
-openingBodyByte (openings.Styp span p found more acc) = none
+openingBodyByte (openings.Styp span p listed more acc) = none
 openingBodyByte (openings.Index span s) = sidxByte topmost s
 
 unfoldable pub openingByte : OpeningBoxes → Option ℕ

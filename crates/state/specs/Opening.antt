@@ -1,6 +1,6 @@
 -- The boxes up to the top index: `styp`, skipped boxes, and the top index, which ends them.
 use Prim.Native.Nat.{ℕ, zero, suc, _+_, _*_}
-use mathlib.Core.List.{List, [], _∷_}
+use mathlib.Core.List.{List, []}
 use mathlib.Core.Bool.{Bool, true, false, not, _||_}
 use lib.Dec.{eqb, leb}
 use Rattle.basics.specs.Choose.{pick}
@@ -36,18 +36,20 @@ spanOf h = record { pos = h .pos; end = boxEnd h }
 
 -- row 8: brand not listed (end of `styp`)
 abbrev pub unlisted : Span → Bool → List Refusal
-unlisted span found = shows (not found) 8 (span .pos)
+unlisted span listed = shows (not listed) 8 (span .pos)
 
 -- compatible brands, to the end of the `styp`
 unfoldable pub brandsFrom : Span → Bool → Flow → ℕ → Sub'
-brandsFrom span found f n =
-    pick (eqb n (span .end)) (unless (unlisted span found) (λ x. bad x (left f)) (done passed f)) (go (body.Styp span styps.Brand found 3 0) f)
+brandsFrom span listed f n =
+    pick (eqb n (span .end))
+    (unless (unlisted span listed) (λ x. bad x (left f)) (done passed f))
+    (go (body.Styp span styps.Brand listed 3 0) f)
 
 -- `styp`: major brand, minor version, compatible brands; the brand wanted must be among the compatible ones
 unfoldable pub stypEnds : ℕ → Span → StypPart → Bool → ℕ → Flow → ℕ → Sub'
-stypEnds brand span styps.Major found v f n = go (body.Styp span styps.Minor found 3 0) f
-stypEnds brand span styps.Minor found v f n = brandsFrom span found f n
-stypEnds brand span styps.Brand found v f n = brandsFrom span (found || eqb v brand) f n
+stypEnds brand span styps.Major listed v f n = go (body.Styp span styps.Minor listed 3 0) f
+stypEnds brand span styps.Minor listed v f n = brandsFrom span listed f n
+stypEnds brand span styps.Brand listed v f n = brandsFrom span (listed || eqb v brand) f n
 
 abbrev pub skipOpening : ℕ → Flow → ℕ → Sub'
 skipOpening stop f n = pick (leb stop n) (done passed f) (go (body.Skip stop) f)
@@ -59,8 +61,8 @@ beginOpening h f n =
 
 unfoldable pub stepOpeningBody : ℕ → OpeningBody → Flow → ℕ → ℕ → Sub'
 stepOpeningBody brand (body.Skip stop) f n b = skipOpening stop f (suc n)
-stepOpeningBody brand (body.Styp span part found zero acc) f n b = stypEnds brand span part found (acc * 256 + b) f (suc n)
-stepOpeningBody brand (body.Styp span part found (suc m) acc) f n b = go (body.Styp span part found m (acc * 256 + b)) f
+stepOpeningBody brand (body.Styp span part listed zero acc) f n b = stypEnds brand span part listed (acc * 256 + b) f (suc n)
+stepOpeningBody brand (body.Styp span part listed (suc m) acc) f n b = go (body.Styp span part listed m (acc * 256 + b)) f
 stepOpeningBody brand (body.Index span s) f n b = lift (body.Index span) (λ x g. done (indexed x) g) bad (stepSidx topmost span s f n b)
 
 abbrev pub openingBox : ℕ → Bool → Kind OpeningBody Opened Flow Left

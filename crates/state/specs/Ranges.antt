@@ -1,10 +1,10 @@
--- The ranges of the state's numbers, phase by phase, as docs/STATE.md lists them: what must be at most what. A test, and the same as a type.
-use Prim.Native.Nat.{ℕ, zero, suc, _+_, _-_, _*_, _^_, _≤_}
+-- The ranges of the state's numbers (row 2), phase by phase, as docs/STATE.md lists them: what must be at most what. A test, and the
+-- same as a type.
+use Prim.Native.Nat.{ℕ, suc, _+_, _-_, _*_, _^_, _≤_}
 use mathlib.Core.List.{List, [], _∷_, _++_}
-use mathlib.Core.Bool.{Bool, true, false, _&&_}
+use mathlib.Core.Bool.{Bool, true, _&&_}
 use lib.Dec.{leb}
 use Rattle.segment.specs.Constants.{limit, timeLimit, wordLimit, typeBit, mostEntries, mostRecords}
-use Rattle.machine.specs.declared.Refusal.{Refusal}
 use Rattle.machine.specs.declared.Head.{Head}
 use Rattle.machine.specs.declared.Head.the-variants as at
 use Rattle.state.specs.declared.TrafBody.{TrafBody}
@@ -73,6 +73,7 @@ Within (b ∷ bs) = (b .low ≤ b .high) × Within bs
 abbrev pub spelled : ℕ → ℕ → ℕ → List Bound
 spelled most more acc = atMost more most ∷ below acc (256 ^ (most - more)) ∷ []
 
+-- a header that is being read
 unfoldable pub headBounds : Head → List Bound
 headBounds at.First = []
 headBounds (at.Size pos more acc) = atMost pos limit ∷ spelled 3 more acc
@@ -137,19 +138,23 @@ abbrev pub draftBounds : ℕ → Draft → List Bound
 draftBounds least d = below (d .id) wordLimit ∷ atMost least (d .scale) ∷ below (d .scale) wordLimit ∷ []
 
 -- the entries whose size, and whose duration, is in the sums
-unfoldable pub sized : EntryPart → ℕ → ℕ
-sized entry.Size next = next
-sized entry.Duration next = suc next
-sized entry.Sap next = suc next
+unfoldable pub sizesRead : EntryPart → ℕ → ℕ
+sizesRead entry.Size next = next
+sizesRead entry.Duration next = suc next
+sizesRead entry.Sap next = suc next
 
-unfoldable pub lasted : EntryPart → ℕ → ℕ
-lasted entry.Size next = next
-lasted entry.Duration next = next
-lasted entry.Sap next = suc next
+unfoldable pub durationsRead : EntryPart → ℕ → ℕ
+durationsRead entry.Size next = next
+durationsRead entry.Duration next = next
+durationsRead entry.Sap next = suc next
 
 abbrev pub sumsBounds : EntryPart → Sums → List Bound
 sumsBounds e s =
-    below (s .next) (s .count) ∷ atMost (s .count) mostEntries ∷ atMost (s .sizes) (typeBit * sized e (s .next)) ∷ atMost (s .durations) (wordLimit * lasted e (s .next)) ∷ []
+    below (s .next) (s .count)
+    ∷ atMost (s .count) mostEntries
+    ∷ atMost (s .sizes) (typeBit * sizesRead e (s .next))
+    ∷ atMost (s .durations) (wordLimit * durationsRead e (s .next))
+    ∷ []
 
 unfoldable pub sidxBounds : Sidx → List Bound
 sidxBounds (sidx.Field i d more acc) = draftBounds (scaleLeast i) d ++ spelled (indexMost i (d .wide)) more acc
@@ -157,7 +162,7 @@ sidxBounds (sidx.Entry e d s more acc) = draftBounds 1 d ++ (sumsBounds e s ++ s
 
 unfoldable pub openingBodyBounds : OpeningBody → List Bound
 openingBodyBounds (openings.Skip stop) = []
-openingBodyBounds (openings.Styp span p found more acc) = spelled 3 more acc
+openingBodyBounds (openings.Styp span p listed more acc) = spelled 3 more acc
 openingBodyBounds (openings.Index span s) = sidxBounds s
 
 unfoldable pub openingBounds : OpeningBoxes → List Bound
@@ -195,6 +200,7 @@ unfoldable pub innerBounds : Levels → InnerBox → List Bound
 innerBounds ls (inners.Head h) = headBounds h
 innerBounds ls (inners.Body span s) = below (depth ls) 4 ∷ sidxBounds s
 
+-- the numbers of a stage, when the time line stands at `now`
 unfoldable pub stageBounds : Stage → ℕ → List Bound
 stageBounds (stage.Opening brand s) now = openingBounds s
 stageBounds (stage.Gap top l end s) now = topBounds top ++ (levelBounds l ++ (atMost now (l .until) ∷ gapBounds s))

@@ -1,6 +1,6 @@
 -- The faults that a header shows where it stands, by the rows of document 01's table. Step and descent share them.
-use Prim.Native.Nat.{ℕ, _+_, _-_, _*_, _%_}
-use mathlib.Core.List.{List, [], _∷_, _++_}
+use Prim.Native.Nat.{ℕ, _+_, _-_, _%_}
+use mathlib.Core.List.{List, _++_}
 use mathlib.Core.Bool.{Bool, true, false, not, _&&_, _||_}
 use lib.Dec.{eqb, ltb, leb}
 use Rattle.basics.specs.Choose.{pick}
@@ -12,9 +12,11 @@ use Rattle.state.specs.declared.Track.{Track}
 use Rattle.state.specs.declared.Track.the-variants as track
 use Rattle.state.specs.Flow.{Flow, room}
 
+-- a header's type is this one
 abbrev pub is : Header → ℕ → Bool
 is h k = eqb (h .kind) k
 
+-- how long a box's body is
 abbrev pub bodyLength : Header → ℕ
 bodyLength h = h .size - h .head
 
@@ -55,7 +57,7 @@ innerFaults depth h =
     ++ (shows (not (is h sidx)) 9 (h .pos)
     ++ shows (is h sidx && leb levels depth) 13 (h .pos)))
 
--- whether a `tfhd`, and whether a `tfdt`, may come
+-- rule 6: whether a `tfhd` may come, and whether a `tfdt` may
 unfoldable pub fresh : Track → Bool
 fresh track.Fresh = true
 fresh (track.Headed r) = false

@@ -1,6 +1,6 @@
 -- An index box, the top one or an inner one: its numbers, and its entries, each byte stored as read.
 use Prim.Native.Nat.{ℕ, zero, suc, _+_, _-_, _*_, _%_}
-use mathlib.Core.List.{List, [], _∷_, _++_}
+use mathlib.Core.List.{List, [], _++_}
 use mathlib.Core.Bool.{Bool, true, false, not, _&&_, _||_}
 use lib.Dec.{eqb, ltb, leb}
 use Rattle.basics.specs.Choose.{pick}
@@ -39,23 +39,25 @@ abbrev pub sidxStart : Sidx
 sidxStart = sidx.Field part.Version draft0 0 0
 
 -- row 10: version above 1; row 6: version 1 under 32 (version byte, the n-th)
-unfoldable pub versionFaults : Span → ℕ → ℕ → List Refusal
-versionFaults span v n = shows (ltb 1 v) 10 (span .pos) ++ shows (eqb v 1 && ltb (span .end) (n + 31)) 6 (span .pos)
+unfoldable pub sidxVersionFaults : Span → ℕ → ℕ → List Refusal
+sidxVersionFaults span v n = shows (ltb 1 v) 10 (span .pos) ++ shows (eqb v 1 && ltb (span .end) (n + 31)) 6 (span .pos)
 
--- row 12: an inner index has its parent's reference ID and timescale, first offset 0, and the start at which its entry stands
+-- row 12, a field of rule 4, each at its end: an inner index has its parent's reference ID
 unfoldable pub idFaults : Place → Span → ℕ → List Refusal
 idFaults topmost span v = []
 idFaults (under top slot depth) span v = shows (not (eqb v (top .id))) 12 (span .pos)
 
--- row 11: timescale 0
+-- row 11: timescale 0; row 12: an inner index has its parent's timescale
 unfoldable pub scaleFaults : Place → Span → ℕ → List Refusal
 scaleFaults topmost span v = shows (eqb v 0) 11 (span .pos)
 scaleFaults (under top slot depth) span v = shows (eqb v 0) 11 (span .pos) ++ shows (not (eqb v (top .scale))) 12 (span .pos)
 
+-- row 12: an inner index has the start time at which its entry stands
 unfoldable pub timeFaults : Place → Span → ℕ → ℕ → List Refusal
 timeFaults topmost span now v = []
 timeFaults (under top slot depth) span now v = shows (not (eqb v now)) 12 (span .pos)
 
+-- row 12: an inner index has first offset 0
 unfoldable pub offsetFaults : Place → Span → ℕ → List Refusal
 offsetFaults topmost span v = []
 offsetFaults (under top slot depth) span v = shows (not (eqb v 0)) 12 (span .pos)
@@ -72,7 +74,7 @@ sumFaults topmost span x now n =
 sumFaults (under top slot depth) span x now n =
     shows (not (eqb (n + x .sizes) (slot .end) && eqb (now + x .durations) (slot .until))) 12 (span .pos)
 
--- a number of 32 bits in version 0, of 64 in version 1: so many bytes follow its first
+-- time and first offset have 32 bits in version 0, 64 in version 1: so many bytes follow the first
 unfoldable pub wideMore : Bool → ℕ
 wideMore true = 7
 wideMore false = 3
@@ -83,14 +85,14 @@ indexOf d s = record { id = d .id; scale = d .scale; time = d .time; offset = d 
 abbrev Sub' : Type 0
 Sub' = Sub Sidx Index Flow Left
 
--- the entries are read
+-- the entries are read, and the box ends
 unfoldable pub closeSidx : Place → Span → Index → Flow → ℕ → Sub'
 closeSidx p span x f n = unless (sumFaults p span x (f .now) n) (λ y. bad y (left f)) (done x f)
 
 -- a number of the index is read
 unfoldable pub fieldEnds : Place → Span → IndexPart → Draft → ℕ → Flow → ℕ → Sub'
 fieldEnds p span part.Version d v f n =
-    unless (versionFaults span v n) (λ x. bad x (left f))
+    unless (sidxVersionFaults span v n) (λ x. bad x (left f))
     (go (sidx.Field part.Flags (record { wide = eqb v 1; id = 0; scale = 0; time = 0; offset = 0 }) 2 0) f)
 fieldEnds p span part.Flags d v f n = go (sidx.Field part.Id d 3 0) f
 fieldEnds p span part.Id d v f n =
@@ -115,8 +117,8 @@ abbrev pub sizeOf : ℕ → ℕ
 sizeOf word = word % typeBit
 
 -- row 11: entry size 0 (4th byte)
-abbrev pub sizeFaults : Span → ℕ → List Refusal
-sizeFaults span word = shows (eqb (sizeOf word) 0) 11 (span .pos)
+abbrev pub entrySizeFaults : Span → ℕ → List Refusal
+entrySizeFaults span word = shows (eqb (sizeOf word) 0) 11 (span .pos)
 
 abbrev pub plusSize : Sums → ℕ → Sums
 plusSize s word = record { next = s .next; count = s .count; sizes = s .sizes + sizeOf word; durations = s .durations }
@@ -129,7 +131,7 @@ nextEntry s = record { next = suc (s .next); count = s .count; sizes = s .sizes;
 
 -- a number of an entry is read
 unfoldable pub entryEnds : Place → Span → EntryPart → Draft → Sums → ℕ → Flow → ℕ → Sub'
-entryEnds p span entry.Size d s v f n = unless (sizeFaults span v) (λ x. bad x (left f)) (go (sidx.Entry entry.Duration d (plusSize s v) 3 0) f)
+entryEnds p span entry.Size d s v f n = unless (entrySizeFaults span v) (λ x. bad x (left f)) (go (sidx.Entry entry.Duration d (plusSize s v) 3 0) f)
 entryEnds p span entry.Duration d s v f n = go (sidx.Entry entry.Sap d (plusDuration s v) 3 0) f
 entryEnds p span entry.Sap d s v f n =
     pick (eqb (suc (s .next)) (s .count)) (closeSidx p span (indexOf d s) f n) (go (sidx.Entry entry.Size d (nextEntry s) 3 0) f)

@@ -20,7 +20,6 @@ use Rattle.state.specs.declared.Seen.{Seen}
 use Rattle.state.specs.declared.Slot.{Slot}
 use Rattle.state.specs.declared.Index.{Index}
 use Rattle.state.specs.declared.Sidx.{Sidx}
-use Rattle.state.specs.declared.OpeningBoxes.{OpeningBoxes}
 use Rattle.state.specs.declared.OpeningBoxes.the-variants as openings
 use Rattle.state.specs.declared.GapBoxes.{GapBoxes}
 use Rattle.state.specs.declared.GapBoxes.the-variants as gaps
@@ -33,14 +32,14 @@ use Rattle.state.specs.declared.Stage.the-variants as stage
 use Rattle.state.specs.Flow.{Flow, Left, left, withNow, listed}
 use Rattle.state.specs.Rows.{gapFaults, innerFaults}
 use Rattle.state.specs.Opening.{spanOf, stepOpening}
-use Rattle.state.specs.Sidx.{Place, under, sidxStart, stepSidx}
+use Rattle.state.specs.Sidx.{under, sidxStart, stepSidx}
 use Rattle.state.specs.Leaf.{leafSo0, stepLeaf}
 use Rattle.state.specs.Levels.{Entry, entryAt, entryPlace, inmost, depth, tookEntry, push, stillOpen, entryFaults, slotOf}
 
 abbrev Sub' : Type 0
 Sub' = Sub Stage Top Flow Left
 
--- The gap: only skipped boxes.
+-- Rule 1: only skipped boxes stand in the gap.
 abbrev pub skipGap : ℕ → Flow → ℕ → Sub ℕ (Unit {0}) Flow Left
 skipGap stop f n = pick (leb stop n) (done tt f) (go stop f)
 
@@ -71,7 +70,7 @@ onward top (some ls) f = go (stage.Entry top ls) f
 abbrev pub follow : Top → Levels → Flow → Sub'
 follow top ls f = onward top (stillOpen ls) f
 
--- What the top index says of the segment; where and when its material ends. It ends at byte n.
+-- What the top index says of the segment; where and when its material ends, when the box of the index ends with byte n.
 abbrev pub topOf : Index → Top
 topOf x = record { id = x .id; scale = x .scale; start = x .time; durations = x .durations }
 
@@ -113,7 +112,7 @@ wrapInner (inBody s) = inners.Body (s .span) (s .sidx)
 abbrev pub innerLevel : Index → Slot → Level
 innerLevel x slot = record { next = 0; count = x .count; end = slot .end; until = slot .until }
 
--- after an inner index its entries follow
+-- after an inner index its entries follow, on the next level
 abbrev pub liftInner : Top → Levels → Slot → Sub (Box InnerBody) Index Flow Left → Sub'
 liftInner top ls slot r =
     lift (λ s. stage.Inner top ls slot (wrapInner s)) (λ x f. follow top (push ls (innerLevel x slot)) f) bad r
@@ -142,6 +141,7 @@ unfoldable pub stepEntry : Top → Levels → Entry → Flow → ℕ → ℕ →
 stepEntry top ls e f n b =
     unless (entryFaults (inmost ls) e (f .now) n) (λ x. bad x (left f)) (stepSlot top (tookEntry ls) (e .inner) (slotOf e (f .now) n) f n b)
 
+-- one byte, by where the reading stands
 unfoldable pub stepStage : Stage → Flow → ℕ → ℕ → Sub'
 stepStage (stage.Opening brand s) f n b = lift (stage.Opening brand) (λ x g. indexEnds x g (suc n)) bad (stepOpening brand s f n b)
 stepStage (stage.Gap top l end s) f n b = lift (stage.Gap top l end) (λ u g. follow top (levels.One l) g) bad (stepGap end s f n b)

@@ -1,6 +1,6 @@
 -- One byte of a segment, and Run, its fold over the bytes.
-use Prim.Native.Nat.{ℕ, zero, suc, _+_, _*_}
-use mathlib.Core.List.{List, [], _∷_, _++_}
+use Prim.Native.Nat.{ℕ, suc}
+use mathlib.Core.List.{List, [], _∷_}
 use mathlib.Core.Bool.{false}
 use lib.Dec.{eqb}
 use Rattle.segment.specs.Constants.{limit}

@@ -1,6 +1,6 @@
 -- A `traf`: one `tfhd`, then one `tfdt`, and no `tfad`.
 use Prim.Native.Nat.{ℕ, zero, suc, _+_, _*_}
-use mathlib.Core.List.{List, [], _∷_, _++_}
+use mathlib.Core.List.{List, [], _++_}
 use mathlib.Core.Bool.{Bool, true, false, not, _&&_, _||_}
 use lib.Dec.{eqb, ltb, leb}
 use Rattle.basics.specs.Choose.{pick}
@@ -35,8 +35,8 @@ abbrev Sub' : Type 0
 Sub' = Sub TrafBody Gave Flow Left
 
 -- row 10: version above 1; row 6: length not that of the version (version byte, the n-th)
-unfoldable pub versionFaults : ℕ → ℕ → ℕ → ℕ → List Refusal
-versionFaults pos end v n =
+unfoldable pub tfdtVersionFaults : ℕ → ℕ → ℕ → ℕ → List Refusal
+tfdtVersionFaults pos end v n =
     shows (ltb 1 v) 10 pos ++ shows (eqb v 0 && not (eqb end (n + 7)) || eqb v 1 && not (eqb end (n + 11))) 6 pos
 
 -- row 18: the reference track's decode time falls (end of `tfdt`)
@@ -62,7 +62,7 @@ unfoldable pub trafEnds : ℕ → Track → TrafPart → ℕ → Flow → ℕ �
 trafEnds id t (part.HeadFlags end) v f n = go (body.Field (part.TrackId end) 3 0) f
 trafEnds id t (part.TrackId end) v f n = restFrom end (eqb v id) f n
 trafEnds id t (part.Version pos end) v f n =
-    unless (versionFaults pos end v n) (λ x. bad x (left f)) (go (body.Field (part.TimeFlags pos (eqb v 1)) 2 0) f)
+    unless (tfdtVersionFaults pos end v n) (λ x. bad x (left f)) (go (body.Field (part.TimeFlags pos (eqb v 1)) 2 0) f)
 trafEnds id t (part.TimeFlags pos true) v f n = go (body.Field (part.Time pos) 7 0) f
 trafEnds id t (part.TimeFlags pos false) v f n = go (body.Field (part.Time pos) 3 0) f
 trafEnds id t (part.Time pos) v f n = done (timed (reference t) pos v) f

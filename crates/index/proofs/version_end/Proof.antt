@@ -1,6 +1,6 @@
 use native.Mathlib.Omega.{arith}
 use Rattle.index.proofs.Laws.{second-lower}
-use Rattle.state.specs.Sidx.{fieldEnds, versionFaults}
+use Rattle.state.specs.Sidx.{fieldEnds, sidxVersionFaults}
 use borrow.Author.Needs.{needs}
 use Rattle.index.proofs.version_end.Statement.{statement}
 use Rattle.index.proofs.version_end.Tie as tie
@@ -15,7 +15,7 @@ unless-shown-requires-2 : tie.Need-unless-shown-requires-2
 unless-shown-requires-2 c κs = search needs
 
 returns : tie.Need-returns
-unfolding fieldEnds versionFaults
+unfolding fieldEnds sidxVersionFaults
 returns c = λ p d f.
     rw (second-lower _ _ 10 6 _ _ _ (omega arith), ← c .before .too-short .ensures, ← c .before .before .unless-shown .ensures f)
     (c .unless-shown2 .ensures f)

@@ -1,7 +1,7 @@
 -- `range::durations_summed` meets its contract.
 use mathlib.Core.Path.{sym, ap, _∙_}
 use native.Mathlib.Numerals.{add-one}
-use Rattle.state.specs.Ranges.{lasted}
+use Rattle.state.specs.Ranges.{durationsRead}
 use Rattle.state.specs.declared.EntryPart.{EntryPart}
 use borrow.Author.Needs.{needs}
 use Rattle.range.proofs.durations_summed.Statement.{statement}
@@ -20,16 +20,16 @@ add-result : tie.Need-add-result
 add-result c = search needs
 
 returns : tie.Need-returns
-unfolding lasted
-returns c = sym (ap (λ (q : EntryPart). lasted q (c .before .before .args .next)) (c .enum-told .given .1))
+unfolding durationsRead
+returns c = sym (ap (λ (q : EntryPart). durationsRead q (c .before .before .args .next)) (c .enum-told .given .1))
 
 returns-2 : tie.Need-returns-2
-unfolding lasted
-returns-2 c = sym (ap (λ (q : EntryPart). lasted q (c .before .before .args .next)) (c .enum-told2 .given .1))
+unfolding durationsRead
+returns-2 c = sym (ap (λ (q : EntryPart). durationsRead q (c .before .before .args .next)) (c .enum-told2 .given .1))
 
 returns-3 : tie.Need-returns-3
-unfolding lasted
-returns-3 c = add-one _ ∙ sym (ap (λ (q : EntryPart). lasted q (c .before .before .args .next)) (c .enum-told3 .given .1))
+unfolding durationsRead
+returns-3 c = add-one _ ∙ sym (ap (λ (q : EntryPart). durationsRead q (c .before .before .args .next)) (c .enum-told3 .given .1))
 
 pub durations-summed-spec : {M : Type 1} → statement M
 durations-summed-spec =

@@ -1,7 +1,7 @@
 -- `range::sizes_summed` meets its contract.
 use mathlib.Core.Path.{sym, ap, _∙_}
 use native.Mathlib.Numerals.{add-one}
-use Rattle.state.specs.Ranges.{sized}
+use Rattle.state.specs.Ranges.{sizesRead}
 use Rattle.state.specs.declared.EntryPart.{EntryPart}
 use borrow.Author.Needs.{needs}
 use Rattle.range.proofs.sizes_summed.Statement.{statement}
@@ -23,16 +23,16 @@ add-result-2 : tie.Need-add-result-2
 add-result-2 c = search needs
 
 returns : tie.Need-returns
-unfolding sized
-returns c = sym (ap (λ (q : EntryPart). sized q (c .before .before .args .next)) (c .enum-told .given .1))
+unfolding sizesRead
+returns c = sym (ap (λ (q : EntryPart). sizesRead q (c .before .before .args .next)) (c .enum-told .given .1))
 
 returns-2 : tie.Need-returns-2
-unfolding sized
-returns-2 c = add-one _ ∙ sym (ap (λ (q : EntryPart). sized q (c .before .before .args .next)) (c .enum-told2 .given .1))
+unfolding sizesRead
+returns-2 c = add-one _ ∙ sym (ap (λ (q : EntryPart). sizesRead q (c .before .before .args .next)) (c .enum-told2 .given .1))
 
 returns-3 : tie.Need-returns-3
-unfolding sized
-returns-3 c = add-one _ ∙ sym (ap (λ (q : EntryPart). sized q (c .before .before .args .next)) (c .enum-told3 .given .1))
+unfolding sizesRead
+returns-3 c = add-one _ ∙ sym (ap (λ (q : EntryPart). sizesRead q (c .before .before .args .next)) (c .enum-told3 .given .1))
 
 pub sizes-summed-spec : {M : Type 1} → statement M
 sizes-summed-spec =

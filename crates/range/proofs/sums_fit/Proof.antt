@@ -5,7 +5,7 @@ use mathlib.Core.List.{[], _∷_}
 use native.Mathlib.Omega.{arith}
 use Rattle.segment.specs.Constants.{mostEntries, typeBit, wordLimit}
 use Rattle.state.specs.Ranges.{atMost, within}
-use Rattle.range.proofs.Joined.{first-holds, first-fails, joined, sized-low, lasted-low}
+use Rattle.range.proofs.Joined.{first-holds, first-fails, joined, sizes-read-low, durations-read-low}
 use borrow.Author.Needs.{needs}
 use Rattle.range.proofs.sums_fit.Statement.{statement}
 use Rattle.range.proofs.sums_fit.Tie as tie
@@ -29,7 +29,7 @@ mul-at-most c =
     omega (
       arith,
       c .before .sizes-summed .ensures,
-      sized-low
+      sizes-read-low
           (c .before .before .before .before .before .before .args .e)
           (c .before .before .before .before .before .before .args .s .next),
     )
@@ -42,7 +42,7 @@ mul-at-most-2 c =
     omega (
       arith,
       c .before .durations-summed .ensures,
-      lasted-low
+      durations-read-low
           (c .before .before .before .before .before .before .before .args .e)
           (c .before .before .before .before .before .before .before .args .s .next),
     )
