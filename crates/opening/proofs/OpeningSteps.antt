@@ -34,7 +34,7 @@ use Rattle.state.specs.declared.OpeningBoxes.{OpeningBoxes}
 use Rattle.state.specs.declared.OpeningBoxes.the-variants as boxes
 use Rattle.state.specs.Flow.{Flow, Left, left, withNow}
 use Rattle.state.specs.Rows.{openingFaults}
-use Rattle.state.specs.Sidx.{topmost, versionFaults, idFaults, scaleFaults, timeFaults, offsetFaults, countFaults, sumFaults, sizeFaults, indexOf, closeSidx, fieldEnds, entryEnds, keepByte, stepSidx}
+use Rattle.state.specs.Sidx.{topmost, sidxVersionFaults, idFaults, scaleFaults, timeFaults, offsetFaults, countFaults, sumFaults, entrySizeFaults, indexOf, closeSidx, fieldEnds, entryEnds, keepByte, stepSidx}
 use Rattle.state.specs.Calls.{flowOf}
 use Rattle.state.specs.Opening.{Opened, indexed, beginOpening, stypEnds, skipOpening, stepOpeningBody, openingBox, opening, wrapOpening, stepOpening}
 use Rattle.header.specs.Flaws.{flawOf}
@@ -110,7 +110,7 @@ timed-view t f (steps.Bad x) = refl
 module _ (t : ℕ) (span : Span) where
   timed-field : (i : IndexPart) (d : Draft) (v : ℕ) (f : Flow) (n : ℕ) → fieldEnds topmost span i d v (withNow f t) n ≡ timed t (fieldEnds topmost span i d v f n)
   unfolding fieldEnds timed timeFaults
-  timed-field part.Version d v f n = unless-both (λ r. r) (timed t) _ _ _ _ (versionFaults span v n) (λ z. refl) refl
+  timed-field part.Version d v f n = unless-both (λ r. r) (timed t) _ _ _ _ (sidxVersionFaults span v n) (λ z. refl) refl
   timed-field part.Flags d v f n = refl
   timed-field part.Id d v f n = unless-both (λ r. r) (timed t) _ _ _ _ (idFaults topmost span v) (λ z. refl) refl
   timed-field part.Scale d v f n = unless-both (λ r. r) (timed t) _ _ _ _ (scaleFaults topmost span v) (λ z. refl) refl
@@ -121,7 +121,7 @@ module _ (t : ℕ) (span : Span) where
 
   timed-entry : (e : EntryPart) (d : Draft) (s : Sums) (v : ℕ) (f : Flow) (n : ℕ) → entryEnds topmost span e d s v (withNow f t) n ≡ timed t (entryEnds topmost span e d s v f n)
   unfolding entryEnds closeSidx sumFaults timed
-  timed-entry entry.Size d s v f n = unless-both (λ r. r) (timed t) _ _ _ _ (sizeFaults span v) (λ z. refl) refl
+  timed-entry entry.Size d s v f n = unless-both (λ r. r) (timed t) _ _ _ _ (entrySizeFaults span v) (λ z. refl) refl
   timed-entry entry.Duration d s v f n = refl
   timed-entry entry.Sap d s v f n =
       pick-both (eqb (suc (s .next)) (s .count)) (λ r. r) (timed t) _ _ _ _
