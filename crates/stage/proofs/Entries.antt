@@ -1,0 +1,125 @@
+-- An entry's first byte, and the first box of an index entry.
+use Prim.Native.Nat.{ℕ, _≤_, _<_}
+use mathlib.Core.Path.{_≡_, refl, ap, sym, subst, _∙_}
+use mathlib.Core.List.{List, [], _∷_, _++_}
+use mathlib.Core.Bool.{Bool, true, false}
+use Rattle.machine.specs.Faults.{refusal, shows, lowest, unless}
+use Rattle.machine.specs.Run.{Sub, go, bad, lift}
+use Rattle.machine.specs.Lists.{stepBox}
+use Rattle.machine.specs.declared.Head.the-variants as at
+use Rattle.state.specs.declared.Top.{Top}
+use Rattle.state.specs.declared.Level.{Level}
+use Rattle.state.specs.declared.Levels.{Levels}
+use Rattle.state.specs.declared.Slot.{Slot}
+use Rattle.state.specs.declared.InnerBox.{InnerBox}
+use Rattle.state.specs.declared.InnerBox.the-variants as inners
+use Rattle.state.specs.declared.LeafBoxes.the-variants as leafBox
+use Rattle.state.specs.declared.Stage.{Stage}
+use Rattle.state.specs.declared.Stage.the-variants as stage
+use Rattle.state.specs.Flow.{Flow, Left, left}
+use Rattle.state.specs.Leaf.{leafSo0}
+use Rattle.state.specs.Levels.{Entry, entryAt, entryPlace, inmost, depth, altered, tookEntry, slotOf}
+use Rattle.state.specs.Ranges.{atMost, below, Within, openingBounds, gapBounds, topBounds, levelBounds, levelsBounds, slotBounds, innerBounds, leafBounds, headBounds, stageBounds}
+use Rattle.state.specs.Stages.{innerKind, wrapInner, liftInner, stepSlot, stepEntry, stepStage}
+use Rattle.inner.specs.Views.{boxOf, viewInner, boxBounds}
+use Rattle.inner.specs.declared.InnerStep.{InnerStep}
+use Rattle.inner.specs.declared.InnerStep.the-variants as innerStep
+use Rattle.state.specs.Calls.{flowOf}
+use Rattle.state.specs.declared.OpeningBoxes.{OpeningBoxes}
+use Rattle.state.specs.declared.GapBoxes.{GapBoxes}
+use Rattle.state.specs.declared.LeafBoxes.{LeafBoxes}
+use Rattle.state.proofs.RangeTests.{within-second, three-within, four-within}
+use Rattle.stage.specs.declared.Running.{Running}
+use Rattle.stage.specs.declared.StageStep.{StageStep}
+use Rattle.stage.specs.Views.{flowing, viewStage}
+
+pub wrap-box : (s : InnerBox) → wrapInner (boxOf s) ≡ s
+wrap-box (inners.Head h) = refl
+wrap-box (inners.Body span s) = refl
+
+pub inner-within : (ls : Levels) (d : ℕ) (s : InnerBox) → d ≡ depth ls → Within (innerBounds ls s) → Within (boxBounds d s)
+unfolding innerBounds boxBounds
+inner-within ls d (inners.Head h) e w = w
+inner-within ls d (inners.Body span s) e w = rw e w
+
+module _ (top : Top) (ls : Levels) (f : Flow) (n b : ℕ) where
+  pub inner-step : (slot : Slot) (d : ℕ) (s : InnerBox) → d ≡ depth ls → liftInner top ls slot (stepBox (innerKind top slot d) (boxOf s) f n b) ≡ stepStage (stage.Inner top ls slot s) f n b
+  unfolding stepStage
+  inner-step slot d (inners.Head h) e = ap (λ (k : ℕ). liftInner top ls slot (stepBox (innerKind top slot k) (boxOf (inners.Head h)) f n b)) e
+  inner-step slot d (inners.Body span s) e = ap (λ (k : ℕ). liftInner top ls slot (stepBox (innerKind top slot k) (boxOf (inners.Body span s)) f n b)) e
+
+  pub slot-inner : (inner : Bool) (slot : Slot) → inner ≡ true → stepStage (stage.Inner top ls slot (inners.Head at.First)) f n b ≡ stepSlot top ls inner slot f n b
+  unfolding stepStage stepSlot
+  slot-inner inner slot e = rw e
+
+  pub slot-leaf : (inner : Bool) (slot : Slot) → inner ≡ false → stepStage (stage.Leaf top ls slot (leafBox.Head (leafSo0 (f .last)) at.First)) f n b ≡ stepSlot top ls inner slot f n b
+  unfolding stepStage stepSlot
+  slot-leaf inner slot e = rw e
+
+  -- an entry that is not what its index stored, and one that may be
+  pub entry-altered : (l : Level) (e : Entry) (t : Bool) → l ≡ inmost ls → t ≡ altered l e (f .now) n → t ≡ true → bad (refusal 12 n) (left f) ≡ stepEntry top ls e f n b
+  unfolding stepEntry shows unless lowest
+  entry-altered l e t i k h = rw (ap (λ (m : Level). altered m e (f .now) n) (sym i) ∙ sym k ∙ h)
+
+  pub entry-kept : (l : Level) (e : Entry) (t : Bool) (slot : Slot) (taken : Levels) → l ≡ inmost ls → t ≡ altered l e (f .now) n → t ≡ false →
+      slot ≡ slotOf e (f .now) n → taken ≡ tookEntry ls → stepSlot top taken (e .inner) slot f n b ≡ stepEntry top ls e f n b
+  unfolding stepEntry shows unless
+  entry-kept l e t slot taken i k h p q = rw (p, q, ap (λ (m : Level). altered m e (f .now) n) (sym i) ∙ sym k ∙ h)
+
+pub leaf-first : (last : ℕ) → Within (leafBounds (leafBox.Head (leafSo0 last) at.First))
+unfolding leafBounds headBounds
+leaf-first last = tt
+
+pub inner-first : (ls : Levels) → Within (innerBounds ls (inners.Head at.First))
+unfolding innerBounds headBounds
+inner-first ls = tt
+
+-- what a byte of the first box makes of the stage
+module _ (top : Top) (ls : Levels) (slot : Slot) where
+  pub inner-goes : (q : InnerStep) (first : InnerBox) (f : Flow) → q ≡ innerStep.Go first → go (stage.Inner top ls slot first) f ≡ liftInner top ls slot (viewInner f q)
+  unfolding lift
+  inner-goes q first f e = rw e (ap (λ (s : InnerBox). go (stage.Inner top ls slot s) f) (sym (wrap-box first)))
+
+  pub inner-law : (r : Running) (s : InnerBox) (n b d : ℕ) (work work' : List ℕ) (q : InnerStep) (p : StageStep) → d ≡ depth ls →
+      ((w t : List ℕ) → viewStage (r .leaves) w t p ≡ liftInner top ls slot (viewInner (flowing r w t) q)) →
+      ((leaves last : ℕ) (table : List ℕ) → viewInner (flowOf leaves (r .now) last work' table) q ≡ stepBox (innerKind top slot d) (boxOf s) (flowOf leaves (r .now) last work table) n b) →
+      (table : List ℕ) → viewStage (r .leaves) work' table p ≡ stepStage (stage.Inner top ls slot s) (flowing r work table) n b
+  inner-law r s n b d work work' q p e k l table =
+      k work' table ∙ ap (liftInner top ls slot) (l (r .leaves) (r .last) table) ∙ inner-step top ls (flowing r work table) n b slot d s e
+
+-- an entry is read back from the work area
+pub entry-read : (top : Top) (ls : Levels) (e : Entry) (f : Flow) (n b : ℕ) → e ≡ entryAt (f .work) (entryPlace ls) → stepEntry top ls e f n b ≡ stepStage (stage.Entry top ls) f n b
+unfolding stepStage
+entry-read top ls e f n b k = ap (λ (x : Entry). stepEntry top ls x f n b) k
+
+-- a stage by another name
+pub stage-as : (s t : Stage) (f : Flow) (n b : ℕ) (x : Sub Stage Top Flow Left) → s ≡ t → x ≡ stepStage t f n b → x ≡ stepStage s f n b
+stage-as s t f n b x e k = k ∙ ap (λ (q : Stage). stepStage q f n b) (sym e)
+
+-- the ranges of each stage's own part
+module _ (q : Stage) (t : ℕ) where
+  pub opening-within : (brand : ℕ) (s : OpeningBoxes) → q ≡ stage.Opening brand s → Within (stageBounds q t) → Within (openingBounds s)
+  unfolding stageBounds
+  opening-within brand s e w = subst (λ (x : Stage). Within (stageBounds x t)) e w
+
+  pub gap-within : (top : Top) (l : Level) (end : ℕ) (s : GapBoxes) → q ≡ stage.Gap top l end s → Within (stageBounds q t) → Within (gapBounds s)
+  unfolding stageBounds
+  gap-within top l end s e w =
+      within-second (topBounds top ++ (levelBounds l ++ (atMost t (l .until) ∷ []))) (gapBounds s) (subst (λ (x : Stage). Within (stageBounds x t)) e w)
+
+  pub entry-within : (top : Top) (ls : Levels) → q ≡ stage.Entry top ls → Within (stageBounds q t) → Within (levelsBounds ls) × (inmost ls .next < inmost ls .count)
+  unfolding stageBounds
+  entry-within top ls e w =
+      let v = three-within (topBounds top) (levelsBounds ls) (below (inmost ls .next) (inmost ls .count) ∷ atMost t (inmost ls .until) ∷ []) (subst (λ (x : Stage). Within (stageBounds x t)) e w) in
+      (v .1, v .2 .0)
+
+  pub leaf-within : (top : Top) (ls : Levels) (slot : Slot) (s : LeafBoxes) → q ≡ stage.Leaf top ls slot s → Within (stageBounds q t) → Within (leafBounds s)
+  unfolding stageBounds
+  leaf-within top ls slot s e w =
+      let v = four-within (topBounds top) (levelsBounds ls) (slotBounds ls slot t) (leafBounds s) (subst (λ (x : Stage). Within (stageBounds x t)) e w) in v .3
+
+  pub inner-around : (top : Top) (ls : Levels) (slot : Slot) (s : InnerBox) → q ≡ stage.Inner top ls slot s → Within (stageBounds q t) → (t ≤ slot .until) × Within (innerBounds ls s)
+  unfolding stageBounds
+  inner-around top ls slot s e w =
+      let v = four-within (topBounds top) (levelsBounds ls) (slotBounds ls slot t) (innerBounds ls s) (subst (λ (x : Stage). Within (stageBounds x t)) e w) in
+      (v .2 .1 .0, v .3)

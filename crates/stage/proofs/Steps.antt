@@ -1,0 +1,78 @@
+-- A stage's byte from what its part makes of the byte. The code counts `n + 1` bytes up to the one at hand.
+use Prim.Native.Nat.{ℕ, _+_, _*_}
+use mathlib.Core.Path.{_≡_, refl, ap, sym, _∙_}
+use mathlib.Core.List.{List}
+use native.Mathlib.Numerals.{add-one}
+use borrow.Author.Tests.{eq-eqb, ne-eqb}
+use Rattle.basics.proofs.Picks.{pick-yes, pick-no}
+use Rattle.segment.specs.Constants.{recordNumbers}
+use Rattle.machine.specs.Run.{go, done, lift}
+use Rattle.machine.specs.declared.Head.the-variants as at
+use Rattle.state.specs.declared.Top.{Top}
+use Rattle.state.specs.declared.Level.{Level}
+use Rattle.state.specs.declared.Levels.{Levels}
+use Rattle.state.specs.declared.Levels.the-variants as levels
+use Rattle.state.specs.declared.Slot.{Slot}
+use Rattle.state.specs.declared.Seen.{Seen}
+use Rattle.state.specs.declared.Index.{Index}
+use Rattle.state.specs.declared.OpeningBoxes.{OpeningBoxes}
+use Rattle.state.specs.declared.GapBoxes.{GapBoxes}
+use Rattle.state.specs.declared.GapBoxes.the-variants as gaps
+use Rattle.state.specs.declared.LeafBoxes.{LeafBoxes}
+use Rattle.state.specs.declared.Stage.the-variants as stage
+use Rattle.state.specs.Flow.{Flow, withNow, putAll, listed}
+use Rattle.state.specs.Opening.{stepOpening}
+use Rattle.state.specs.Leaf.{stepLeaf}
+use Rattle.state.specs.Calls.{flowOf}
+use Rattle.state.specs.Stages.{follow, topOf, topLevel, indexEnds, leafRow, liftLeaf, stepGap, stepStage}
+use Rattle.leaf.specs.Leaf.{viewLeaf}
+use Rattle.leaf.specs.declared.LeafStep.{LeafStep}
+use Rattle.leaf.specs.declared.LeafStep.the-variants as leaves
+use Rattle.stage.specs.declared.Running.{Running}
+use Rattle.stage.specs.declared.StageStep.{StageStep}
+use Rattle.stage.specs.Views.{flowing, viewStage}
+use Rattle.stage.specs.Arms.{liftOpening, liftGap, tableAfter}
+
+-- the top index ends: the material follows at once, or the gap does
+module _ (x : Index) (f : Flow) (n : ℕ) where
+  pub material-follows : x .offset ≡ 0 → follow (topOf x) (levels.One (topLevel x n)) (withNow f (x .time)) ≡ indexEnds x f n
+  unfolding indexEnds
+  material-follows e = sym (pick-yes _ _ _ (eq-eqb (x .offset) 0 e))
+
+  pub gap-follows : (x .offset ≡ 0 → ⊥) → go (stage.Gap (topOf x) (topLevel x n) (n + x .offset) (gaps.Head at.First)) (withNow f (x .time)) ≡ indexEnds x f n
+  unfolding indexEnds
+  gap-follows e = sym (pick-no _ _ _ (ne-eqb (x .offset) 0 e))
+
+pub opening-step : (brand : ℕ) (s : OpeningBoxes) (f : Flow) (n b : ℕ) → liftOpening brand (n + 1) (stepOpening brand s f n b) ≡ stepStage (stage.Opening brand s) f n b
+unfolding stepStage
+opening-step brand s f n b = ap (λ (m : ℕ). liftOpening brand m (stepOpening brand s f n b)) (add-one n)
+
+pub gap-step : (top : Top) (l : Level) (end : ℕ) (s : GapBoxes) (f : Flow) (n b : ℕ) → liftGap top l end (stepGap end s f n b) ≡ stepStage (stage.Gap top l end s) f n b
+unfolding stepStage
+gap-step top l end s f n b = refl
+
+module _ (top : Top) (ls : Levels) (slot : Slot) (r : Running) (work table : List ℕ) where
+  abbrev tableIn : LeafStep → List ℕ
+  tableIn q = tableAfter (r .leaves) slot (r .now) q table
+
+  -- a leaf is listed
+  pub leaf-done : (seen : Seen) (p : StageStep) →
+      viewStage (r .leaves) work (putAll table (recordNumbers * r .leaves) (leafRow slot (r .now) (seen .first))) p
+      ≡ follow top ls (flowOf (r .leaves + 1) (slot .until) (seen .last) work (putAll table (recordNumbers * r .leaves) (leafRow slot (r .now) (seen .first)))) →
+      viewStage (r .leaves) work (tableIn (leaves.Done seen)) p ≡ liftLeaf top ls slot (viewLeaf (flowing r work table) (leaves.Done seen))
+  unfolding tableAfter lift listed
+  leaf-done seen p e =
+      e
+      ∙ ap (λ (k : ℕ). follow top ls (flowOf k (slot .until) (seen .last) work (putAll table (recordNumbers * r .leaves) (leafRow slot (r .now) (seen .first))))) (add-one (r .leaves))
+
+  pub leaf-goes : (s : LeafBoxes) → go (stage.Leaf top ls slot s) (flowOf (r .leaves) (r .now) (r .last) work (tableIn (leaves.Go s))) ≡ liftLeaf top ls slot (viewLeaf (flowing r work table) (leaves.Go s))
+  unfolding tableAfter lift
+  leaf-goes s = refl
+
+  -- a leaf's byte, with its record put where it is done
+  pub leaf-step : (s : LeafBoxes) (n b : ℕ) (q : LeafStep) (table' : List ℕ) (p : StageStep) → table' ≡ tableIn q →
+      viewStage (r .leaves) work (tableIn q) p ≡ liftLeaf top ls slot (viewLeaf (flowing r work table) q) →
+      viewLeaf (flowing r work table) q ≡ stepLeaf (top .id) slot s (flowing r work table) n b →
+      viewStage (r .leaves) work table' p ≡ stepStage (stage.Leaf top ls slot s) (flowing r work table) n b
+  unfolding stepStage
+  leaf-step s n b q table' p e k l = ap (λ (t : List ℕ). viewStage (r .leaves) work t p) e ∙ k ∙ ap (liftLeaf top ls slot) l

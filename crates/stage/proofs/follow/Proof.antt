@@ -1,0 +1,20 @@
+use mathlib.Core.Path.{ap, _∙_}
+use mathlib.Core.Option.{Option}
+use Rattle.state.specs.declared.Levels.{Levels}
+use Rattle.state.specs.Stages as defs
+use Rattle.stage.specs.Views.{flowing}
+use borrow.Author.Needs.{needs}
+use Rattle.stage.proofs.follow.Statement.{statement}
+use Rattle.stage.proofs.follow.Tie as tie
+
+still-open-requires : tie.Need-still-open-requires
+still-open-requires c κs = search needs
+
+onward-requires : tie.Need-onward-requires
+onward-requires c κs = search needs
+
+returns : tie.Need-returns
+returns c = λ leaves work table. c .onward .ensures leaves work table ∙ ap (λ (o : Option Levels). defs.onward (c .before .before .args .top) o (flowing (c .before .before .args .r) work table)) (c .before .still-open .ensures)
+
+pub follow-spec : {M : Type 1} → statement M
+follow-spec = tie.close (tie.spec still-open-requires onward-requires returns)

@@ -1,0 +1,27 @@
+use mathlib.Core.Path.{_∙_}
+use Rattle.stage.specs.Views.{flowing}
+use Rattle.stage.proofs.Steps.{material-follows, gap-follows}
+use borrow.Author.Needs.{needs}
+use Rattle.stage.proofs.index_ends.Statement.{statement}
+use Rattle.stage.proofs.index_ends.Tie as tie
+
+add-start : tie.Need-add-start
+add-start c = search needs
+
+add-t9 : tie.Need-add-t9
+add-t9 c = search needs
+
+add-t10 : tie.Need-add-t10
+add-t10 c = search needs
+
+follow-requires : tie.Need-follow-requires
+follow-requires c κs = search needs
+
+returns : tie.Need-returns
+returns c = λ leaves work table. c .follow .ensures leaves work table ∙ material-follows _ (flowing (c .before .before .before .before .before .before .args .r) work table) _ (c .before .if1 .taken)
+
+returns-2 : tie.Need-returns-2
+returns-2 c = λ leaves work table. gap-follows _ (flowing (c .before .before .before .before .before .args .r) work table) _ (c .if1 .left)
+
+pub index-ends-spec : {M : Type 1} → statement M
+index-ends-spec = tie.close (tie.spec add-start add-t9 add-t10 follow-requires returns returns-2)
