@@ -6,7 +6,7 @@ ghost use Rattle.machine.specs.Heads.{sizeFaults, sized, stepHead};
 ghost use Rattle.state.specs.Flow.{Flow, left};
 ghost use Rattle.state.specs.Rows.{bodyLength, topLengths};
 ghost use Rattle.state.specs.Ranges.{Within, headBounds};
-ghost use Rattle.header.specs.Views.{viewHead};
+ghost use Rattle.header.specs.Views.{viewHead, refusalHead};
 ghost use Rattle.header.specs.Flaws.{flawOf};
 use machine::Head;
 use machine::Header;
@@ -17,11 +17,29 @@ const STYP: u64 = 1937013104;
 
 const SIDX: u64 = 1936286840;
 
-// What a byte makes of a header: it goes on, it is read, or it is refused.
+// What a byte makes of a header: it is taken, or it is refused.
 pub enum HeadStep {
-    Go(Head),
-    Done(Header),
+    Taken(HeadSo),
     Bad(Refusal),
+}
+
+// A header so far: it goes on, or it is read.
+pub enum HeadSo {
+    Going(Head),
+    Read(Header),
+}
+
+// The refusal that goes out where a byte of a header was not taken; of a byte that was taken there is none.
+pub fn refused_head(r: HeadStep) -> Refusal
+    ensures { λ x. ⌜ x ≡ refusalHead r ⌝ }
+{
+    match r {
+        HeadStep::Taken(_) => Refusal {
+            number: 0,
+            place: 0,
+        },
+        HeadStep::Bad(x) => x,
+    }
 }
 
 // A number's next byte. A number of eight bytes has seven before its last, so that no sum wraps.
@@ -42,11 +60,11 @@ fn first_byte(end: u64, n: u64, b: u8) -> HeadStep
             place: n,
         });
     }
-    HeadStep::Go(Head::Size {
+    HeadStep::Taken(HeadSo::Going(Head::Size {
         pos: n,
         more: 2,
         acc: b as u64,
-    })
+    }))
 }
 
 fn size_byte(end: u64, pos: u64, more: u64, acc: u64, n: u64, b: u8) -> HeadStep
@@ -55,18 +73,18 @@ fn size_byte(end: u64, pos: u64, more: u64, acc: u64, n: u64, b: u8) -> HeadStep
 {
     let v = spelled(acc, b);
     if more == 0 {
-        return HeadStep::Go(Head::Kind {
+        return HeadStep::Taken(HeadSo::Going(Head::Kind {
             pos,
             size: v,
             more: 3,
             acc: 0,
-        });
+        }));
     }
-    HeadStep::Go(Head::Size {
+    HeadStep::Taken(HeadSo::Going(Head::Size {
         pos,
         more: more - 1,
         acc: v,
-    })
+    }))
 }
 
 // Size and type are read. Size 1 means that a 64-bit size follows.
@@ -75,12 +93,12 @@ fn sized_by(end: u64, pos: u64, size: u64, kind: u64) -> HeadStep
     ensures { λ r. ⌜ ((f : Flow) → viewHead f r ≡ sized left end pos size kind f) ⌝ }
 {
     if size != 1 {
-        return HeadStep::Done(Header {
+        return HeadStep::Taken(HeadSo::Read(Header {
             pos,
             kind,
             size,
             head: 8,
-        });
+        }));
     }
     if end < pos + 16 {
         return HeadStep::Bad(Refusal {
@@ -88,12 +106,12 @@ fn sized_by(end: u64, pos: u64, size: u64, kind: u64) -> HeadStep
             place: pos,
         });
     }
-    HeadStep::Go(Head::Large {
+    HeadStep::Taken(HeadSo::Going(Head::Large {
         pos,
         kind,
         more: 7,
         acc: 0,
-    })
+    }))
 }
 
 fn kind_byte(end: u64, pos: u64, size: u64, more: u64, acc: u64, n: u64, b: u8) -> HeadStep
@@ -104,12 +122,12 @@ fn kind_byte(end: u64, pos: u64, size: u64, more: u64, acc: u64, n: u64, b: u8) 
     if more == 0 {
         return sized_by(end, pos, size, v);
     }
-    HeadStep::Go(Head::Kind {
+    HeadStep::Taken(HeadSo::Going(Head::Kind {
         pos,
         size,
         more: more - 1,
         acc: v,
-    })
+    }))
 }
 
 fn large_byte(end: u64, pos: u64, kind: u64, more: u64, acc: u64, n: u64, b: u8) -> HeadStep
@@ -118,19 +136,19 @@ fn large_byte(end: u64, pos: u64, kind: u64, more: u64, acc: u64, n: u64, b: u8)
 {
     let v = spelled(acc, b);
     if more == 0 {
-        return HeadStep::Done(Header {
+        return HeadStep::Taken(HeadSo::Read(Header {
             pos,
             kind,
             size: v,
             head: 16,
-        });
+        }));
     }
-    HeadStep::Go(Head::Large {
+    HeadStep::Taken(HeadSo::Going(Head::Large {
         pos,
         kind,
         more: more - 1,
         acc: v,
-    })
+    }))
 }
 
 // One byte of a header whose container ends at `end`; `n` bytes stand before it.

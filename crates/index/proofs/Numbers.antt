@@ -80,11 +80,10 @@ spelled-fits most more acc b h hb w =
     omega arith
 
 -- A number before the entries.
-module _ {s : Sidx} {i : IndexPart} {d : Draft} {more acc : ℕ} (b : ℕ)
-    (e : s ≡ sidx.Field i d more acc) (hb : b < 256) (w : Within (sidxBounds s)) where
+module _ (i : IndexPart) (d : Draft) (more acc b : ℕ) (hb : b < 256) (w : Within (sidxBounds (sidx.Field i d more acc))) where
   field-spelled : Within (spelled (indexMost i (d .wide)) more acc)
   unfolding sidxBounds
-  field-spelled = (rw e at w) .1 .1 .1
+  field-spelled = w .1 .1 .1
 
   pub field-fits : acc * 256 + b < timeLimit
   field-fits = spelled-fits (indexMost i (d .wide)) more acc b (index-most i (d .wide)) hb field-spelled

@@ -20,20 +20,16 @@ use Rattle.index.specs.Views.{flowOf}
 module _ (p : Place) (span : Span) (n b v : ℕ) where
   -- a number before the entries
   module _ (i : IndexPart) (d : Draft) (more acc : ℕ) (f : Flow) (ev : v ≡ acc * 256 + b) where
-    field-ends : more ≡ 0 → stepSidx p span (sidx.Field i d more acc) f n b ≡ fieldEnds p span i d v f (n + 1)
+    pub field-last : more ≡ 0 → fieldEnds p span i d v f (n + 1) ≡ stepSidx p span (sidx.Field i d more acc) f n b
     unfolding stepSidx
-    field-ends em = rw (em, ev, add-one n)
+    field-last em = rw (em, ev, add-one n)
 
     field-goes : (m : ℕ) → more ≡ suc m → stepSidx p span (sidx.Field i d more acc) f n b ≡ go (sidx.Field i d m v) f
     unfolding stepSidx
     field-goes m em = rw (em, ev)
 
-  module _ {s : Sidx} {i : IndexPart} {d : Draft} {more acc : ℕ} (f : Flow) (e : s ≡ sidx.Field i d more acc) (ev : v ≡ acc * 256 + b) where
-    pub field-last : more ≡ 0 → fieldEnds p span i d v f (n + 1) ≡ stepSidx p span s f n b
-    field-last em = rw (e, field-ends i d more acc f ev em)
-
-    pub field-on : (more ≡ 0 → ⊥) → go (sidx.Field i d (more - 1) v) f ≡ stepSidx p span s f n b
-    field-on h = rw (e, field-goes i d more acc f ev (more - 1) (omega arith))
+    pub field-on : (more ≡ 0 → ⊥) → go (sidx.Field i d (more - 1) v) f ≡ stepSidx p span (sidx.Field i d more acc) f n b
+    field-on h = rw (field-goes (more - 1) (omega arith))
 
   -- a number of an entry, its byte stored
   module _ (i : EntryPart) (d : Draft) (sums : Sums) (more acc : ℕ) (leaves at last : ℕ) (w w' table : List ℕ) (ev : v ≡ acc * 256 + b)

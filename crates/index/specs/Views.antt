@@ -2,7 +2,9 @@
 use Prim.Native.Nat.{ℕ, _*_, _≤_, _<_}
 use mathlib.Core.List.{List}
 use Rattle.segment.specs.Constants.{wordLimit, typeBit, mostEntries}
+use Rattle.machine.specs.Faults.{refusal}
 use Rattle.machine.specs.Run.{Sub, go, done, bad}
+use Rattle.machine.specs.declared.Refusal.{Refusal}
 use Rattle.state.specs.declared.Sums.{Sums}
 use Rattle.state.specs.declared.Sidx.{Sidx}
 use Rattle.state.specs.declared.Index.{Index}
@@ -12,6 +14,7 @@ use Rattle.index.specs.declared.Where.{Where}
 use Rattle.index.specs.declared.Where.the-variants as places
 use Rattle.index.specs.declared.IndexStep.{IndexStep}
 use Rattle.index.specs.declared.IndexStep.the-variants as steps
+use Rattle.index.specs.declared.IndexSo.the-variants as so
 
 abbrev pub placeOf : Where → Place
 placeOf places.Topmost = topmost
@@ -19,9 +22,14 @@ placeOf (places.Under top slot depth) = under top slot depth
 
 -- an answer, while this flows
 abbrev pub viewIndex : Flow → IndexStep → Sub Sidx Index Flow Left
-viewIndex f (steps.Go s) = go s f
-viewIndex f (steps.Done x) = done x f
+viewIndex f (steps.Taken (so.Going s)) = go s f
+viewIndex f (steps.Taken (so.Read x)) = done x f
 viewIndex f (steps.Bad x) = bad x (left f)
+
+-- the refusal that an answer holds; number 0 is none
+abbrev pub refusalIndex : IndexStep → Refusal
+refusalIndex (steps.Taken s) = refusal 0 0
+refusalIndex (steps.Bad x) = x
 
 abbrev pub flowOf : ℕ → ℕ → ℕ → List ℕ → List ℕ → Flow
 flowOf leaves at last work table = record { leaves = leaves; now = at; last = last; work = work; table = table }

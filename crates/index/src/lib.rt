@@ -21,7 +21,7 @@ ghost use Rattle.machine.specs.Faults.{shows, unless};
 ghost use Rattle.state.specs.Flow.{Flow, left};
 ghost use Rattle.state.specs.Sidx.{Place, partOf, wideMore, closeSidx, fieldEnds, entryEnds, wordPlace, bytePlace, stepSidx};
 ghost use Rattle.state.specs.Ranges.{Within, sidxBounds, indexMost};
-ghost use Rattle.index.specs.Views.{placeOf, viewIndex, flowOf, Shallow, Timely, Summed};
+ghost use Rattle.index.specs.Views.{placeOf, viewIndex, refusalIndex, flowOf, Shallow, Timely, Summed};
 
 const LIMIT: u64 = 268435456;
 
@@ -41,11 +41,29 @@ pub enum Where {
     Under(Top, Slot, u64),
 }
 
-// What one byte of an index comes to: it goes on, it is read whole, or it is refused.
+// What a byte makes of an index: it is taken, or it is refused.
 pub enum IndexStep {
-    Go(Sidx),
-    Done(Index),
+    Taken(IndexSo),
     Bad(Refusal),
+}
+
+// An index so far: it goes on, or it is read.
+pub enum IndexSo {
+    Going(Sidx),
+    Read(Index),
+}
+
+// The refusal that goes out where a byte of an index was not taken; of a byte that was taken there is none.
+pub fn refused_index(r: IndexStep) -> Refusal
+    ensures { λ x. ⌜ x ≡ refusalIndex r ⌝ }
+{
+    match r {
+        IndexStep::Taken(_) => Refusal {
+            number: 0,
+            place: 0,
+        },
+        IndexStep::Bad(x) => x,
+    }
 }
 
 // A fault with this number, where it is shown, and else what goes on. Where a byte may show several, the lowest number is tested last
@@ -74,7 +92,7 @@ fn version_end(span: Span, v: u64, n: u64) -> IndexStep
     requires { ⌜ n ≤ limit ⌝ }
     ensures { λ r. ⌜ ((p : Place) (d : Draft) (f : Flow) → viewIndex f r ≡ fieldEnds p span IndexPart.Version d v f n) ⌝ }
 {
-    let next = IndexStep::Go(Sidx::Field {
+    let next = IndexStep::Taken(IndexSo::Going(Sidx::Field {
         part: IndexPart::Flags,
         draft: Draft {
             wide: v == 1,
@@ -85,7 +103,7 @@ fn version_end(span: Span, v: u64, n: u64) -> IndexStep
         },
         more: 2,
         acc: 0,
-    });
+    }));
     let known = unless_shown(1 < v, 10, span.pos, next);
     unless_shown(too_short(span.end, v, n), 6, span.pos, known)
 }
@@ -94,7 +112,7 @@ fn version_end(span: Span, v: u64, n: u64) -> IndexStep
 fn id_end(p: Where, span: Span, draft: Draft, v: u64) -> IndexStep
     ensures { λ r. ⌜ ((f : Flow) (n : ℕ) → viewIndex f r ≡ fieldEnds (placeOf p) span IndexPart.Id draft v f n) ⌝ }
 {
-    let next = IndexStep::Go(Sidx::Field {
+    let next = IndexStep::Taken(IndexSo::Going(Sidx::Field {
         part: IndexPart::Scale,
         draft: Draft {
             wide: draft.wide,
@@ -105,7 +123,7 @@ fn id_end(p: Where, span: Span, draft: Draft, v: u64) -> IndexStep
         },
         more: 3,
         acc: 0,
-    });
+    }));
     match p {
         Where::Topmost => next,
         Where::Under(top, _, _) => unless_shown(v != top.id, 12, span.pos, next),
@@ -127,7 +145,7 @@ fn scale_end(p: Where, span: Span, draft: Draft, v: u64) -> IndexStep
     ensures { λ r. ⌜ ((f : Flow) (n : ℕ) → viewIndex f r ≡ fieldEnds (placeOf p) span IndexPart.Scale draft v f n) ⌝ }
 {
     let more = wide_more(draft.wide);
-    let next = IndexStep::Go(Sidx::Field {
+    let next = IndexStep::Taken(IndexSo::Going(Sidx::Field {
         part: IndexPart::Time,
         draft: Draft {
             wide: draft.wide,
@@ -138,7 +156,7 @@ fn scale_end(p: Where, span: Span, draft: Draft, v: u64) -> IndexStep
         },
         more,
         acc: 0,
-    });
+    }));
     match p {
         Where::Topmost => unless_shown(v == 0, 11, span.pos, next),
         Where::Under(top, _, _) => {
@@ -157,7 +175,7 @@ fn time_end(p: Where, span: Span, draft: Draft, v: u64, at: u64) -> IndexStep
         ⌝ }
 {
     let more = wide_more(draft.wide);
-    let next = IndexStep::Go(Sidx::Field {
+    let next = IndexStep::Taken(IndexSo::Going(Sidx::Field {
         part: IndexPart::Offset,
         draft: Draft {
             wide: draft.wide,
@@ -168,7 +186,7 @@ fn time_end(p: Where, span: Span, draft: Draft, v: u64, at: u64) -> IndexStep
         },
         more,
         acc: 0,
-    });
+    }));
     match p {
         Where::Topmost => next,
         Where::Under(_, _, _) => unless_shown(v != at, 12, span.pos, next),
@@ -179,7 +197,7 @@ fn time_end(p: Where, span: Span, draft: Draft, v: u64, at: u64) -> IndexStep
 fn offset_end(p: Where, span: Span, draft: Draft, v: u64) -> IndexStep
     ensures { λ r. ⌜ ((f : Flow) (n : ℕ) → viewIndex f r ≡ fieldEnds (placeOf p) span IndexPart.Offset draft v f n) ⌝ }
 {
-    let next = IndexStep::Go(Sidx::Field {
+    let next = IndexStep::Taken(IndexSo::Going(Sidx::Field {
         part: IndexPart::Reserved,
         draft: Draft {
             wide: draft.wide,
@@ -190,7 +208,7 @@ fn offset_end(p: Where, span: Span, draft: Draft, v: u64) -> IndexStep
         },
         more: 1,
         acc: 0,
-    });
+    }));
     match p {
         Where::Topmost => next,
         Where::Under(_, _, _) => unless_shown(v != 0, 12, span.pos, next),
@@ -211,7 +229,7 @@ fn count_end(span: Span, draft: Draft, v: u64, n: u64) -> IndexStep
     requires { ⌜ (v < 65536) × (n ≤ limit) ⌝ }
     ensures { λ r. ⌜ ((p : Place) (f : Flow) → viewIndex f r ≡ fieldEnds p span IndexPart.Count draft v f n) ⌝ }
 {
-    let next = IndexStep::Go(Sidx::Entry {
+    let next = IndexStep::Taken(IndexSo::Going(Sidx::Entry {
         part: EntryPart::Size,
         draft,
         sums: Sums {
@@ -222,21 +240,21 @@ fn count_end(span: Span, draft: Draft, v: u64, n: u64) -> IndexStep
         },
         more: 3,
         acc: 0,
-    });
+    }));
     let counted = unless_shown(no_count(v), 11, span.pos, next);
     unless_shown(span.end != n + ENTRY_BYTES * v, 6, span.pos, counted)
 }
 
 // A number before the entries goes on, or the next one begins.
 fn next_field(part: IndexPart, draft: Draft, more: u64, acc: u64) -> IndexStep
-    ensures { λ r. ⌜ r ≡ IndexStep.Go (Sidx.Field part draft more acc) ⌝ }
+    ensures { λ r. ⌜ r ≡ IndexStep.Taken (IndexSo.Going (Sidx.Field part draft more acc)) ⌝ }
 {
-    IndexStep::Go(Sidx::Field {
+    IndexStep::Taken(IndexSo::Going(Sidx::Field {
         part,
         draft,
         more,
         acc,
-    })
+    }))
 }
 
 // A number before the entries is read, at the n-th byte.
@@ -303,7 +321,7 @@ fn close_index(p: Where, span: Span, x: Index, at: u64, n: u64) -> IndexStep
         ≡ closeSidx (placeOf p) span x (flowOf leaves at last work table) n)
         ⌝ }
 {
-    let next = IndexStep::Done(x);
+    let next = IndexStep::Taken(IndexSo::Read(x));
     match p {
         Where::Topmost => unless_shown(too_much(x, n), 14, span.pos, next),
         Where::Under(_, slot, _) => unless_shown(other_sums(slot, x, at, n), 12, span.pos, next),
@@ -316,7 +334,7 @@ fn size_end(span: Span, draft: Draft, sums: Sums, v: u64) -> IndexStep
     ensures { λ r. ⌜ ((p : Place) (f : Flow) (n : ℕ) → viewIndex f r ≡ entryEnds p span EntryPart.Size draft sums v f n) ⌝ }
 {
     let size = v % TYPE_BIT;
-    let next = IndexStep::Go(Sidx::Entry {
+    let next = IndexStep::Taken(IndexSo::Going(Sidx::Entry {
         part: EntryPart::Duration,
         draft,
         sums: Sums {
@@ -327,7 +345,7 @@ fn size_end(span: Span, draft: Draft, sums: Sums, v: u64) -> IndexStep
         },
         more: 3,
         acc: 0,
-    });
+    }));
     unless_shown(size == 0, 11, span.pos, next)
 }
 
@@ -335,7 +353,7 @@ fn duration_end(draft: Draft, sums: Sums, v: u64) -> IndexStep
     requires { ⌜ Summed sums × (v < wordLimit) ⌝ }
     ensures { λ r. ⌜ ((p : Place) (span : Span) (f : Flow) (n : ℕ) → viewIndex f r ≡ entryEnds p span EntryPart.Duration draft sums v f n) ⌝ }
 {
-    IndexStep::Go(Sidx::Entry {
+    IndexStep::Taken(IndexSo::Going(Sidx::Entry {
         part: EntryPart::Sap,
         draft,
         sums: Sums {
@@ -346,7 +364,7 @@ fn duration_end(draft: Draft, sums: Sums, v: u64) -> IndexStep
         },
         more: 3,
         acc: 0,
-    })
+    }))
 }
 
 // An entry is read: the next one begins, or the index is over.
@@ -370,7 +388,7 @@ fn sap_end(p: Where, span: Span, draft: Draft, sums: Sums, at: u64, n: u64) -> I
         };
         return close_index(p, span, x, at, n);
     }
-    IndexStep::Go(Sidx::Entry {
+    IndexStep::Taken(IndexSo::Going(Sidx::Entry {
         part: EntryPart::Size,
         draft,
         sums: Sums {
@@ -381,7 +399,7 @@ fn sap_end(p: Where, span: Span, draft: Draft, sums: Sums, at: u64, n: u64) -> I
         },
         more: 3,
         acc: 0,
-    })
+    }))
 }
 
 // A number of an entry is read, at the n-th byte.
@@ -411,15 +429,15 @@ fn entry_end(
 
 // A number of an entry goes on.
 fn next_entry(part: EntryPart, draft: Draft, sums: Sums, more: u64, acc: u64) -> IndexStep
-    ensures { λ r. ⌜ r ≡ IndexStep.Go (Sidx.Entry part draft sums more acc) ⌝ }
+    ensures { λ r. ⌜ r ≡ IndexStep.Taken (IndexSo.Going (Sidx.Entry part draft sums more acc)) ⌝ }
 {
-    IndexStep::Go(Sidx::Entry {
+    IndexStep::Taken(IndexSo::Going(Sidx::Entry {
         part,
         draft,
         sums,
         more,
         acc,
-    })
+    }))
 }
 
 // Where an index's level has its part of the work area.
@@ -460,6 +478,32 @@ fn spelled_on(acc: u64, b: u8) -> u64
     acc * 256 + (b as u64)
 }
 
+// One byte of a number before the entries.
+fn field_byte(
+    p: Where,
+    span: Span,
+    part: IndexPart,
+    draft: Draft,
+    more: u64,
+    acc: u64,
+    at: u64,
+    n: u64,
+    b: u8,
+) -> IndexStep
+    requires { ⌜ Within (sidxBounds (Sidx.Field part draft more acc)) × (n < limit) ⌝ }
+    ensures { λ r. ⌜
+        ((leaves last : ℕ) (work table : List ℕ) →
+        viewIndex (flowOf leaves at last work table) r
+        ≡ stepSidx (placeOf p) span (Sidx.Field part draft more acc) (flowOf leaves at last work table) n b)
+        ⌝ }
+{
+    let v = spelled_on(acc, b);
+    if more == 0 {
+        return field_end(p, span, part, draft, v, at, n + 1);
+    }
+    next_field(part, draft, more - 1, v)
+}
+
 // One byte of an index's body: `n` bytes were read before it, and the next entry starts at the time `at`.
 pub fn index_byte(
     p: Where,
@@ -483,13 +527,7 @@ pub fn index_byte(
             draft,
             more,
             acc,
-        } => {
-            let v = spelled_on(acc, b);
-            if more == 0 {
-                return field_end(p, span, part, draft, v, at, n + 1);
-            }
-            next_field(part, draft, more - 1, v)
-        }
+        } => field_byte(p, span, part, draft, more, acc, at, n, b),
         Sidx::Entry {
             part,
             draft,

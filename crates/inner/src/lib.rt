@@ -16,7 +16,9 @@ ghost use Rattle.header.specs.Views.{viewHead};
 ghost use Rattle.header.specs.Flaws.{flawOf};
 ghost use Rattle.index.specs.Views.{viewIndex};
 ghost use Rattle.inner.specs.Views.{boxOf, viewInner, headInner, bodyInner, boxBounds};
+use header::HeadSo;
 use header::HeadStep;
+use index::IndexSo;
 use index::IndexStep;
 use index::Where;
 use machine::Header;
@@ -110,10 +112,12 @@ fn inner_headed(slot: Slot, depth: u64, h: Header) -> InnerStep
 fn inner_head(slot: Slot, depth: u64, q: HeadStep) -> InnerStep
     ensures { λ r. ⌜ ((top : Top) (m : ℕ) (f : Flow) → viewInner f r ≡ headInner top slot depth m (viewHead f q)) ⌝ }
 {
-    match q {
-        HeadStep::Go(h) => InnerStep::Go(InnerBox::Head(h)),
-        HeadStep::Done(h) => inner_headed(slot, depth, h),
-        HeadStep::Bad(x) => InnerStep::Bad(x),
+    let HeadStep::Taken(head) = q else {
+        return InnerStep::Bad(header::refused_head(q));
+    };
+    match head {
+        HeadSo::Going(h) => InnerStep::Go(InnerBox::Head(h)),
+        HeadSo::Read(h) => inner_headed(slot, depth, h),
     }
 }
 
@@ -121,10 +125,12 @@ fn inner_head(slot: Slot, depth: u64, q: HeadStep) -> InnerStep
 fn inner_index(span: Span, q: IndexStep) -> InnerStep
     ensures { λ r. ⌜ ((f : Flow) → viewInner f r ≡ bodyInner span (viewIndex f q)) ⌝ }
 {
-    match q {
-        IndexStep::Go(s) => InnerStep::Go(InnerBox::Body(span, s)),
-        IndexStep::Done(x) => InnerStep::Done(x),
-        IndexStep::Bad(x) => InnerStep::Bad(x),
+    let IndexStep::Taken(read) = q else {
+        return InnerStep::Bad(index::refused_index(q));
+    };
+    match read {
+        IndexSo::Going(s) => InnerStep::Go(InnerBox::Body(span, s)),
+        IndexSo::Read(x) => InnerStep::Done(x),
     }
 }
 

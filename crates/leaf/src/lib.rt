@@ -1,7 +1,9 @@
 // A leaf byte by byte: its boxes, a `moof` among them, and the boxes of a `moof`. What flows through a reading stays as it is inside a
 // leaf, so that no function here takes it; of the leaf table only whether it has room for one more leaf is told.
+use header::HeadSo;
 use header::HeadStep;
 use header::head_byte;
+use header::refused_head;
 use header::size_flaw;
 use machine::Head;
 use machine::Header;
@@ -173,10 +175,12 @@ fn after_moof_header(end: u64, seen: Seen, h: Header, n: u64) -> MoofStep
 fn after_moof_head(end: u64, seen: Seen, r: HeadStep, n: u64) -> MoofStep
     ensures { λ q. ⌜ ((id : ℕ) (f : Flow) → viewMoof f q ≡ afterHead (moofBoxes id end) wrapMoof seen n (viewHead f r)) ⌝ }
 {
-    match r {
-        HeadStep::Go(h) => MoofStep::Go(MoofBoxes::Head(seen, h)),
-        HeadStep::Done(h) => after_moof_header(end, seen, h, n),
-        HeadStep::Bad(x) => MoofStep::Bad(x),
+    let HeadStep::Taken(head) = r else {
+        return MoofStep::Bad(refused_head(r));
+    };
+    match head {
+        HeadSo::Going(h) => MoofStep::Go(MoofBoxes::Head(seen, h)),
+        HeadSo::Read(h) => after_moof_header(end, seen, h, n),
     }
 }
 
@@ -396,10 +400,12 @@ fn after_leaf_header(slot: Slot, so: LeafSo, full: bool, h: Header, n: u64) -> L
 fn after_leaf_head(slot: Slot, so: LeafSo, full: bool, r: HeadStep, n: u64) -> LeafStep
     ensures { λ q. ⌜ ((id : ℕ) (f : Flow) → RoomIs full f → viewLeaf f q ≡ afterHead (leafBoxes id slot) wrapLeaf so n (viewHead f r)) ⌝ }
 {
-    match r {
-        HeadStep::Go(h) => LeafStep::Go(LeafBoxes::Head(so, h)),
-        HeadStep::Done(h) => after_leaf_header(slot, so, full, h, n),
-        HeadStep::Bad(x) => LeafStep::Bad(worse_in_leaf(slot, so, full, x, n)),
+    let HeadStep::Taken(head) = r else {
+        return LeafStep::Bad(worse_in_leaf(slot, so, full, refused_head(r), n));
+    };
+    match head {
+        HeadSo::Going(h) => LeafStep::Go(LeafBoxes::Head(so, h)),
+        HeadSo::Read(h) => after_leaf_header(slot, so, full, h, n),
     }
 }
 

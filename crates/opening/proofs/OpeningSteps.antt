@@ -42,6 +42,7 @@ use Rattle.header.proofs.Flaws.{flaw-none, flaw-some}
 use Rattle.index.specs.Views.{viewIndex}
 use Rattle.index.specs.declared.IndexStep.{IndexStep}
 use Rattle.index.specs.declared.IndexStep.the-variants as steps
+use Rattle.index.specs.declared.IndexSo.the-variants as so
 use Rattle.opening.specs.Views.{headOpening, bodyOpening}
 use Rattle.opening.proofs.OpeningFlaws.{opening-placed}
 
@@ -102,8 +103,8 @@ timed t (bad x l) = bad x l
 
 pub timed-view : (t : ℕ) (f : Flow) (r : IndexStep) → viewIndex (withNow f t) r ≡ timed t (viewIndex f r)
 unfolding timed
-timed-view t f (steps.Go s) = refl
-timed-view t f (steps.Done x) = refl
+timed-view t f (steps.Taken (so.Going s)) = refl
+timed-view t f (steps.Taken (so.Read x)) = refl
 timed-view t f (steps.Bad x) = refl
 
 -- The top index does not look at the time at which the next entry starts.

@@ -21,7 +21,9 @@ ghost use Rattle.header.specs.Views.{viewHead};
 ghost use Rattle.header.specs.Flaws.{flawOf};
 ghost use Rattle.index.specs.Views.{viewIndex};
 ghost use Rattle.opening.specs.Views.{viewGap, viewOpening, headGap, bodyGap, headOpening, bodyOpening};
+use header::HeadSo;
 use header::HeadStep;
+use index::IndexSo;
 use index::IndexStep;
 use index::Where;
 use machine::Head;
@@ -126,10 +128,12 @@ fn gap_headed(end: u64, h: Header, m: u64) -> GapStep
 fn gap_head(end: u64, q: HeadStep, m: u64) -> GapStep
     ensures { λ r. ⌜ ((f : Flow) → viewGap f r ≡ headGap end m (viewHead f q)) ⌝ }
 {
-    match q {
-        HeadStep::Go(h) => GapStep::Go(GapBoxes::Head(h)),
-        HeadStep::Done(h) => gap_headed(end, h, m),
-        HeadStep::Bad(x) => GapStep::Bad(x),
+    let HeadStep::Taken(head) = q else {
+        return GapStep::Bad(header::refused_head(q));
+    };
+    match head {
+        HeadSo::Going(h) => GapStep::Go(GapBoxes::Head(h)),
+        HeadSo::Read(h) => gap_headed(end, h, m),
     }
 }
 
@@ -255,10 +259,12 @@ fn opening_headed(branded: bool, h: Header, m: u64) -> OpeningStep
 fn opening_head(branded: bool, q: HeadStep, m: u64) -> OpeningStep
     ensures { λ r. ⌜ ((brand : ℕ) (f : Flow) → viewOpening f r ≡ headOpening brand branded m (viewHead f q)) ⌝ }
 {
-    match q {
-        HeadStep::Go(h) => OpeningStep::Go(OpeningBoxes::Head(branded, h)),
-        HeadStep::Done(h) => opening_headed(branded, h, m),
-        HeadStep::Bad(x) => OpeningStep::Bad(x),
+    let HeadStep::Taken(head) = q else {
+        return OpeningStep::Bad(header::refused_head(q));
+    };
+    match head {
+        HeadSo::Going(h) => OpeningStep::Go(OpeningBoxes::Head(branded, h)),
+        HeadSo::Read(h) => opening_headed(branded, h, m),
     }
 }
 
@@ -364,13 +370,15 @@ fn opening_index(branded: bool, span: Span, q: IndexStep) -> OpeningStep
         ≡ bodyOpening brand branded m (lift (OpeningBody.Index span) (λ x g. done (indexed x) g) bad (viewIndex f q)))
         ⌝ }
 {
-    match q {
-        IndexStep::Go(s) => OpeningStep::Go(OpeningBoxes::Body(
+    let IndexStep::Taken(read) = q else {
+        return OpeningStep::Bad(index::refused_index(q));
+    };
+    match read {
+        IndexSo::Going(s) => OpeningStep::Go(OpeningBoxes::Body(
             branded,
             OpeningBody::Index(span, s),
         )),
-        IndexStep::Done(x) => OpeningStep::Done(x),
-        IndexStep::Bad(x) => OpeningStep::Bad(x),
+        IndexSo::Read(x) => OpeningStep::Done(x),
     }
 }
 

@@ -4,6 +4,7 @@ use mathlib.Core.List.{List, []}
 use mathlib.Core.Bool.{Bool, true, false}
 use lib.Dec.{eqb}
 use Rattle.basics.specs.Choose.{pick}
+use Rattle.machine.specs.Faults.{refusal}
 use Rattle.machine.specs.Run.{Sub, go, done, bad, lift}
 use Rattle.machine.specs.Lists.{inHead, liftBox, liftBody, headed as headedBox}
 use Rattle.machine.specs.declared.Refusal.{Refusal}
@@ -22,6 +23,7 @@ use Rattle.track.specs.declared.Given.{Given}
 use Rattle.track.specs.declared.Given.the-variants as given
 use Rattle.track.specs.declared.BodyStep.{BodyStep}
 use Rattle.track.specs.declared.BodyStep.the-variants as bodyStep
+use Rattle.track.specs.declared.BodySo.the-variants as bodySo
 use Rattle.track.specs.declared.TrackStep.{TrackStep}
 use Rattle.track.specs.declared.TrackStep.the-variants as trackStep
 
@@ -31,9 +33,14 @@ gaveOf (given.Headed r) = headed r
 gaveOf (given.Timed r pos v) = timed r pos v
 
 abbrev pub viewBody : Flow → BodyStep → Sub TrafBody Gave Flow Left
-viewBody f (bodyStep.Go s) = go s f
-viewBody f (bodyStep.Done g) = done (gaveOf g) f
+viewBody f (bodyStep.Taken (bodySo.Going s)) = go s f
+viewBody f (bodyStep.Taken (bodySo.Ended g)) = done (gaveOf g) f
 viewBody f (bodyStep.Bad x) = bad x (left f)
+
+-- the refusal that an answer holds; number 0 is none
+abbrev pub refusalBody : BodyStep → Refusal
+refusalBody (bodyStep.Taken s) = refusal 0 0
+refusalBody (bodyStep.Bad x) = x
 
 abbrev pub viewTrack : Flow → TrackStep → Sub TrafBoxes Seen Flow Left
 viewTrack f (trackStep.Go s) = go s f

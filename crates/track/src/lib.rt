@@ -1,6 +1,8 @@
 // The boxes of a `traf`, byte by byte. What flows through a reading stays as it is inside a `traf`, so that no function here takes it.
+use header::HeadSo;
 use header::HeadStep;
 use header::head_byte;
+use header::refused_head;
 use header::size_flaw;
 use header::spelled;
 use machine::Head;
@@ -31,7 +33,7 @@ ghost use Rattle.state.specs.Traf.{nothing, timed, reference, skipTraf, restFro
 ghost use Rattle.state.specs.Ranges.{Within, trafBodyBounds, trafBounds};
 ghost use Rattle.state.specs.declared.TrafBody.the-variants as body;
 ghost use Rattle.state.specs.declared.TrafPart.the-variants as part;
-ghost use Rattle.track.specs.Track.{gaveOf, viewBody, viewTrack, timedTrack, besideTraf, afterBody, afterHeader, afterHead};
+ghost use Rattle.track.specs.Track.{gaveOf, viewBody, refusalBody, viewTrack, timedTrack, besideTraf, afterBody, afterHeader, afterHead};
 
 // The types of the boxes that a `traf` knows.
 const TFHD: u64 = 1952868452;
@@ -47,11 +49,16 @@ pub enum Given {
     Timed(bool, u64, u64),
 }
 
-// What a byte makes of the body of a box.
+// What a byte makes of the body of a box: it is taken, or it is refused.
 pub enum BodyStep {
-    Go(TrafBody),
-    Done(Given),
+    Taken(BodySo),
     Bad(Refusal),
+}
+
+// The body of a box so far: it goes on, or it ends with what it gives.
+pub enum BodySo {
+    Going(TrafBody),
+    Ended(Given),
 }
 
 // What a byte makes of the boxes of a `traf`.
@@ -66,9 +73,9 @@ fn skip_to(stop: u64, n: u64) -> BodyStep
     ensures { λ r. ⌜ ((f : Flow) → viewBody f r ≡ skipTraf nothing body.Skip stop f n) ⌝ }
 {
     if stop <= n {
-        return BodyStep::Done(Given::Nothing);
+        return BodyStep::Taken(BodySo::Ended(Given::Nothing));
     }
-    BodyStep::Go(TrafBody::Skip { stop })
+    BodyStep::Taken(BodySo::Going(TrafBody::Skip { stop }))
 }
 
 // The rest of a `tfhd` after its track ID.
@@ -76,9 +83,9 @@ fn rest_to(stop: u64, reference: bool, n: u64) -> BodyStep
     ensures { λ r. ⌜ ((f : Flow) → viewBody f r ≡ restFrom stop reference f n) ⌝ }
 {
     if stop <= n {
-        return BodyStep::Done(Given::Headed(reference));
+        return BodyStep::Taken(BodySo::Ended(Given::Headed(reference)));
     }
-    BodyStep::Go(TrafBody::Rest { stop, reference })
+    BodyStep::Taken(BodySo::Going(TrafBody::Rest { stop, reference }))
 }
 
 // The version of a `tfdt`, its byte the n-th: it says how long the box is.
@@ -100,11 +107,11 @@ fn version_end(pos: u64, end: u64, v: u64, n: u64) -> BodyStep
             });
         }
         let part = TrafPart::TimeFlags { pos, wide: false };
-        return BodyStep::Go(TrafBody::Field {
+        return BodyStep::Taken(BodySo::Going(TrafBody::Field {
             part,
             more: 2,
             acc: 0,
-        });
+        }));
     }
     if end != n + 11 {
         return BodyStep::Bad(Refusal {
@@ -113,11 +120,11 @@ fn version_end(pos: u64, end: u64, v: u64, n: u64) -> BodyStep
         });
     }
     let part = TrafPart::TimeFlags { pos, wide: true };
-    BodyStep::Go(TrafBody::Field {
+    BodyStep::Taken(BodySo::Going(TrafBody::Field {
         part,
         more: 2,
         acc: 0,
-    })
+    }))
 }
 
 // How many bytes of a decode time follow its first.
@@ -148,23 +155,27 @@ fn field_end(id: u64, t: Track, p: TrafPart, v: u64, n: u64) -> BodyStep
     match p {
         TrafPart::HeadFlags { end } => {
             let part = TrafPart::TrackId { end };
-            BodyStep::Go(TrafBody::Field {
+            BodyStep::Taken(BodySo::Going(TrafBody::Field {
                 part,
                 more: 3,
                 acc: 0,
-            })
+            }))
         }
         TrafPart::TrackId { end } => rest_to(end, v == id, n),
         TrafPart::Version { pos, end } => version_end(pos, end, v, n),
         TrafPart::TimeFlags { pos, wide } => {
             let part = TrafPart::Time { pos };
-            BodyStep::Go(TrafBody::Field {
+            BodyStep::Taken(BodySo::Going(TrafBody::Field {
                 part,
                 more: time_more(wide),
                 acc: 0,
-            })
+            }))
         }
-        TrafPart::Time { pos } => BodyStep::Done(Given::Timed(is_reference(t), pos, v)),
+        TrafPart::Time { pos } => BodyStep::Taken(BodySo::Ended(Given::Timed(
+            is_reference(t),
+            pos,
+            v,
+        ))),
     }
 }
 
@@ -178,11 +189,11 @@ fn field_byte(id: u64, t: Track, p: TrafPart, more: u64, acc: u64, n: u64, b: u8
     if more == 0 {
         return field_end(id, t, p, v, n + 1);
     }
-    BodyStep::Go(TrafBody::Field {
+    BodyStep::Taken(BodySo::Going(TrafBody::Field {
         part: p,
         more: more - 1,
         acc: v,
-    })
+    }))
 }
 
 // One byte of the body of a box.
@@ -207,19 +218,19 @@ fn body_begin(h: Header, n: u64) -> BodyStep
     let end = pos + h.size;
     if h.kind == TFHD {
         let part = TrafPart::HeadFlags { end };
-        return BodyStep::Go(TrafBody::Field {
+        return BodyStep::Taken(BodySo::Going(TrafBody::Field {
             part,
             more: 3,
             acc: 0,
-        });
+        }));
     }
     if h.kind == TFDT {
         let part = TrafPart::Version { pos, end };
-        return BodyStep::Go(TrafBody::Field {
+        return BodyStep::Taken(BodySo::Going(TrafBody::Field {
             part,
             more: 0,
             acc: 0,
-        });
+        }));
     }
     skip_to(end, n)
 }
@@ -389,17 +400,30 @@ fn box_end(span: Span, so: TrafSo, g: Given, n: u64) -> TrackStep
     }
 }
 
+// The refusal that goes out where a byte of a body was not taken; of a byte that was taken there is none.
+fn refused_body(r: BodyStep) -> Refusal
+    ensures { λ x. ⌜ x ≡ refusalBody r ⌝ }
+{
+    match r {
+        BodyStep::Taken(_) => Refusal {
+            number: 0,
+            place: 0,
+        },
+        BodyStep::Bad(x) => x,
+    }
+}
+
 // What the body of a box answers, in the list.
 fn after_body(span: Span, so: TrafSo, r: BodyStep, n: u64) -> TrackStep
     ensures { λ q. ⌜ ((id : ℕ) (f : Flow) → viewTrack f q ≡ afterBody id span so n (viewBody f r)) ⌝ }
 {
-    match r {
-        BodyStep::Go(s) => TrackStep::Go(TrafBoxes::Body(so, s)),
-        BodyStep::Done(g) => box_end(span, so, g, n),
-        BodyStep::Bad(x) => {
-            let track = so.track;
-            TrackStep::Bad(worse(span, track, x, n))
-        }
+    let BodyStep::Taken(body) = r else {
+        let track = so.track;
+        return TrackStep::Bad(worse(span, track, refused_body(r), n));
+    };
+    match body {
+        BodySo::Going(s) => TrackStep::Go(TrafBoxes::Body(so, s)),
+        BodySo::Ended(g) => box_end(span, so, g, n),
     }
 }
 
@@ -435,13 +459,13 @@ fn after_header(span: Span, so: TrafSo, h: Header, n: u64) -> TrackStep
 fn after_head(span: Span, so: TrafSo, r: HeadStep, n: u64) -> TrackStep
     ensures { λ q. ⌜ ((id : ℕ) (f : Flow) → viewTrack f q ≡ afterHead id span so n (viewHead f r)) ⌝ }
 {
-    match r {
-        HeadStep::Go(h) => TrackStep::Go(TrafBoxes::Head(so, h)),
-        HeadStep::Done(h) => after_header(span, so, h, n),
-        HeadStep::Bad(x) => {
-            let track = so.track;
-            TrackStep::Bad(worse(span, track, x, n))
-        }
+    let HeadStep::Taken(head) = r else {
+        let track = so.track;
+        return TrackStep::Bad(worse(span, track, refused_head(r), n));
+    };
+    match head {
+        HeadSo::Going(h) => TrackStep::Go(TrafBoxes::Head(so, h)),
+        HeadSo::Read(h) => after_header(span, so, h, n),
     }
 }
 

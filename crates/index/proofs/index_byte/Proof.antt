@@ -1,7 +1,7 @@
 use mathlib.Core.Path.{_∙_}
 use native.Mathlib.Omega.{arith}
-use Rattle.index.proofs.Numbers.{place-fits, field-fits, field-ended, entry-fits, entry-more, entry-ended, entry-summed}
-use Rattle.index.proofs.Steps.{field-last, field-on, entry-last, entry-on}
+use Rattle.index.proofs.Numbers.{place-fits, entry-fits, entry-more, entry-ended, entry-summed}
+use Rattle.index.proofs.Steps.{entry-last, entry-on}
 use borrow.Author.Needs.{needs}
 use Rattle.index.proofs.index_byte.Statement.{statement}
 use Rattle.index.proofs.index_byte.Tie as tie
@@ -9,30 +9,8 @@ use Rattle.index.proofs.index_byte.Tie as tie
 enum-known-s : tie.Need-enum-known-s
 enum-known-s c = search needs
 
-spelled-on-requires : tie.Need-spelled-on-requires
-spelled-on-requires c κs =
-    field-fits (c .before .before .before .before .args .b) (c .before .s .given .1) (search needs) (c .before .before .before .before .pre .2)
-
-add-field-end : tie.Need-add-field-end
-add-field-end c = search needs
-
-field-end-requires : tie.Need-field-end-requires
-field-end-requires c κs = (
-  field-ended (c .before .before .before .before .before .before .args .b) (c .before .before .before .s .given .1) (search needs)
-      (c .before .before .before .before .before .before .pre .2) _ (c .before .spelled-on .ensures) (c .if1 .taken),
-  omega arith,
-)
-
-returns : tie.Need-returns
-returns c = λ leaves last table.
-    c .field-end .ensures leaves last _ table
-    ∙ field-last _ _ _ _ _ _ (c .before .before .before .before .s .given .1) (c .before .before .spelled-on .ensures) (c .before .if1 .taken)
-
-sub-next-field : tie.Need-sub-next-field
-sub-next-field c = search needs
-
-next-field-requires : tie.Need-next-field-requires
-next-field-requires c κs = search needs
+field-byte-requires : tie.Need-field-byte-requires
+field-byte-requires c κs = (rw (c .before .s .given .1) at (c .before .before .before .before .pre .2), c .before .before .before .before .pre .3)
 
 enum-known-s-2 : tie.Need-enum-known-s-2
 enum-known-s-2 c = search needs
@@ -52,8 +30,8 @@ slice-write-work c =
           (c .before .before .before .before .before .pre .2) (c .before .before .before .before .before .pre .0) (c .byte-place .ensures),
     )
 
-spelled-on-requires-2 : tie.Need-spelled-on-requires-2
-spelled-on-requires-2 c κs =
+spelled-on-requires : tie.Need-spelled-on-requires
+spelled-on-requires c κs =
     entry-fits (c .before .before .before .before .before .args .b) (c .before .before .s2 .given .1) (search needs)
     (c .before .before .before .before .before .pre .2)
 
@@ -64,17 +42,17 @@ entry-end-requires : tie.Need-entry-end-requires
 entry-end-requires c κs = (
   c .before .before .before .before .before .before .before .pre .1,
   entry-summed (c .before .before .before .before .s2 .given .1) (c .before .before .before .before .before .before .before .pre .2),
-  entry-ended (c .before .before .before .before .before .before .before .args .b) (c .before .before .before .before .s2 .given .1) (search needs) (c .before .before .before .before .before .before .before .pre .2) _ (c .before .spelled-on2 .ensures) (c .if2 .taken),
+  entry-ended (c .before .before .before .before .before .before .before .args .b) (c .before .before .before .before .s2 .given .1) (search needs) (c .before .before .before .before .before .before .before .pre .2) _ (c .before .spelled-on .ensures) (c .if1 .taken),
   omega arith,
 )
 
 same-length : tie.Need-same-length
 same-length c = search needs
 
-returns-2 : tie.Need-returns-2
-returns-2 c = λ leaves last table.
+returns : tie.Need-returns
+returns c = λ leaves last table.
     c .entry-end .ensures leaves last _ table ∙ entry-last _ _ _ _ _ _ _ _ _ _ _ (c .before .before .before .before .before .s2 .given .1)
-    (c .before .before .spelled-on2 .ensures) (rw (c .before .before .before .byte-place .ensures)) (c .before .if2 .taken)
+    (c .before .before .spelled-on .ensures) (rw (c .before .before .before .byte-place .ensures)) (c .before .if1 .taken)
 
 sub-next-entry : tie.Need-sub-next-entry
 sub-next-entry c = search needs
@@ -82,41 +60,34 @@ sub-next-entry c = search needs
 next-entry-requires : tie.Need-next-entry-requires
 next-entry-requires c κs = search needs
 
-returns-3 : tie.Need-returns-3
-returns-3 c = λ leaves last table.
-    rw (c .next-field .ensures)
-    (field-on _ _ _ _ _ _ (c .before .before .before .before .s .given .1) (c .before .before .spelled-on .ensures) (c .before .if1 .left))
+returns-2 : tie.Need-returns-2
+returns-2 c = λ leaves last table. rw (c .before .before .s .given .1) (c .field-byte .ensures leaves last _ table)
 
 same-length-2 : tie.Need-same-length-2
 same-length-2 c = search needs
 
-returns-4 : tie.Need-returns-4
-returns-4 c = λ leaves last table.
+returns-3 : tie.Need-returns-3
+returns-3 c = λ leaves last table.
     rw (c .next-entry .ensures)
-    (entry-on _ _ _ _ _ _ _ _ _ _ _ (c .before .before .before .before .before .s2 .given .1) (c .before .before .spelled-on2 .ensures)
-    (rw (c .before .before .before .byte-place .ensures)) (c .before .if2 .left))
+    (entry-on _ _ _ _ _ _ _ _ _ _ _ (c .before .before .before .before .before .s2 .given .1) (c .before .before .spelled-on .ensures)
+    (rw (c .before .before .before .byte-place .ensures)) (c .before .if1 .left))
 
 pub index-byte-spec : {M : Type 1} → statement M
 index-byte-spec =
     tie.close
     (tie.spec
     enum-known-s
-    spelled-on-requires
-    add-field-end
-    field-end-requires
-    returns
-    sub-next-field
-    next-field-requires
+    field-byte-requires
     enum-known-s-2
     byte-place-requires
     slice-write-work
-    spelled-on-requires-2
+    spelled-on-requires
     add-entry-end
     entry-end-requires
     same-length
-    returns-2
+    returns
     sub-next-entry
     next-entry-requires
-    returns-3
+    returns-2
     same-length-2
-    returns-4)
+    returns-3)

@@ -1,60 +1,68 @@
 use mathlib.Core.Path.{ap, sym, _∙_}
 use Rattle.machine.specs.Faults.{lowest}
-use Rattle.machine.specs.Run.{lift}
-use Rattle.header.specs.Views.{viewHead}
+use Rattle.machine.specs.Run.{bad, lift}
+use Rattle.machine.specs.declared.Refusal.{Refusal}
+use Rattle.header.specs.Views.{viewHead, refusalHead}
 use Rattle.header.specs.declared.HeadStep.{HeadStep}
+use Rattle.header.specs.declared.HeadStep.the-variants as heads
+use Rattle.state.specs.Flow.{left}
 use Rattle.state.specs.Leaf.{moofBoxes, wrapMoof}
 use Rattle.leaf.specs.Leaf.{afterHead}
 use borrow.Author.Needs.{needs}
 use Rattle.leaf.proofs.after_moof_head.Statement.{statement}
 use Rattle.leaf.proofs.after_moof_head.Tie as tie
 
--- src/lib.rt:178:22
 enum-known-r : tie.Need-enum-known-r
 enum-known-r c = search needs
 
--- src/lib.rt:179:24
-enum-known-r-2 : tie.Need-enum-known-r-2
-enum-known-r-2 c = search needs
+enum-told : tie.Need-enum-told
+enum-told c = search needs
 
--- src/lib.rt:179:30
+refused-head-requires : tie.Need-refused-head-requires
+refused-head-requires c κs = search needs
+
+returns : tie.Need-returns
+unfolding lift lowest
+returns c =
+    let a = c .before .before .before .args in
+    let e = c .before .enum-told .given .1 in
+    λ id f. ap (λ (x : Refusal). bad x (left f)) (c .refused-head .ensures ∙ ap refusalHead e)
+    ∙ sym (ap (λ (q : HeadStep). afterHead (moofBoxes id (a .end)) wrapMoof (a .seen) (a .n) (viewHead f q)) e)
+
+enum-known-head : tie.Need-enum-known-head
+enum-known-head c = search needs
+
+enum-known-head-2 : tie.Need-enum-known-head-2
+enum-known-head-2 c = search needs
+
 after-moof-header-requires : tie.Need-after-moof-header-requires
 after-moof-header-requires c κs = search needs
 
--- src/lib.rt:180:23
-enum-known-r-3 : tie.Need-enum-known-r-3
-enum-known-r-3 c = search needs
-
--- src/lib.rt:174:1
-returns : tie.Need-returns
-unfolding lift
-returns c =
-    let a = c .before .before .before .args in
-    λ id f. sym (ap (λ (q : HeadStep). afterHead (moofBoxes id (a .end)) wrapMoof (a .seen) (a .n) (viewHead f q)) (c .before .r .given .1))
-
--- src/lib.rt:174:1
 returns-2 : tie.Need-returns-2
 unfolding lift
 returns-2 c =
-    let a = c .before .before .before .before .args in
-    λ id f. c .after-moof-header .ensures id f
-    ∙ sym (ap (λ (q : HeadStep). afterHead (moofBoxes id (a .end)) wrapMoof (a .seen) (a .n) (viewHead f q)) (c .before .before .r2 .given .1))
+    let a = c .before .before .before .before .before .before .args in
+    let e = c .before .before .before .before .r .given .1 ∙ ap heads.Taken (c .before .head .given .1) in
+    λ id f. sym (ap (λ (q : HeadStep). afterHead (moofBoxes id (a .end)) wrapMoof (a .seen) (a .n) (viewHead f q)) e)
 
--- src/lib.rt:174:1
 returns-3 : tie.Need-returns-3
-unfolding lift lowest
+unfolding lift
 returns-3 c =
-    let a = c .before .before .before .args in
-    λ id f. sym (ap (λ (q : HeadStep). afterHead (moofBoxes id (a .end)) wrapMoof (a .seen) (a .n) (viewHead f q)) (c .before .r3 .given .1))
+    let a = c .before .before .before .before .before .before .before .args in
+    let e = c .before .before .before .before .before .r .given .1 ∙ ap heads.Taken (c .before .before .head2 .given .1) in
+    λ id f. c .after-moof-header .ensures id f
+    ∙ sym (ap (λ (q : HeadStep). afterHead (moofBoxes id (a .end)) wrapMoof (a .seen) (a .n) (viewHead f q)) e)
 
 pub after-moof-head-spec : {M : Type 1} → statement M
 after-moof-head-spec =
     tie.close
     (tie.spec
     enum-known-r
-    enum-known-r-2
-    after-moof-header-requires
-    enum-known-r-3
+    enum-told
+    refused-head-requires
     returns
+    enum-known-head
+    enum-known-head-2
+    after-moof-header-requires
     returns-2
     returns-3)

@@ -1,4 +1,3 @@
-use Prim.Native.Nat.{_-_}
 use Rattle.machine.specs.Faults.{lowest, unless}
 use Rattle.machine.specs.Run.{lift}
 use Rattle.machine.specs.Lists.{goOn}
@@ -10,24 +9,39 @@ use Rattle.opening.proofs.opening_index.Tie as tie
 enum-known-q : tie.Need-enum-known-q
 enum-known-q c = search needs
 
-enum-known-q-2 : tie.Need-enum-known-q-2
-enum-known-q-2 c = search needs
+enum-told : tie.Need-enum-told
+enum-told c = search needs
 
-enum-known-q-3 : tie.Need-enum-known-q-3
-enum-known-q-3 c = search needs
+refused-index-requires : tie.Need-refused-index-requires
+refused-index-requires c κs = search needs
 
 returns : tie.Need-returns
-unfolding lift
-returns c = λ brand m f. rw (c .before .q .given .1)
+unfolding lift lowest
+returns c = λ brand m f. rw (c .refused-index .ensures, c .before .enum-told .given .1)
+
+enum-known-read : tie.Need-enum-known-read
+enum-known-read c = search needs
+
+enum-known-read-2 : tie.Need-enum-known-read-2
+enum-known-read-2 c = search needs
 
 returns-2 : tie.Need-returns-2
-unfolding lift goOn closeOpening unless
-returns-2 c = λ brand m f. rw (c .before .q2 .given .1)
+unfolding lift
+returns-2 c = λ brand m f. rw (c .before .before .before .before .q .given .1, c .before .read .given .1)
 
 returns-3 : tie.Need-returns-3
-unfolding lift lowest
-returns-3 c = λ brand m f. rw (c .before .q3 .given .1)
+unfolding lift goOn closeOpening unless
+returns-3 c = λ brand m f. rw (c .before .before .before .before .q .given .1, c .before .read2 .given .1)
 
 pub opening-index-spec : {M : Type 1} → statement M
 opening-index-spec =
-    tie.close (tie.spec enum-known-q enum-known-q-2 enum-known-q-3 returns returns-2 returns-3)
+    tie.close
+    (tie.spec
+    enum-known-q
+    enum-told
+    refused-index-requires
+    returns
+    enum-known-read
+    enum-known-read-2
+    returns-2
+    returns-3)

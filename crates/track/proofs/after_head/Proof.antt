@@ -1,66 +1,71 @@
 use mathlib.Core.Path.{ap, sym, _∙_}
+use Rattle.machine.specs.Faults.{lowest}
 use Rattle.machine.specs.Run.{bad, lift}
 use Rattle.machine.specs.declared.Refusal.{Refusal}
-use Rattle.header.specs.Views.{viewHead}
+use Rattle.header.specs.Views.{viewHead, refusalHead}
 use Rattle.header.specs.declared.HeadStep.{HeadStep}
+use Rattle.header.specs.declared.HeadStep.the-variants as heads
 use Rattle.state.specs.Flow.{left}
-use Rattle.track.specs.Track.{afterHead}
+use Rattle.track.specs.Track.{afterHead, besideTraf}
 use borrow.Author.Needs.{needs}
 use Rattle.track.proofs.after_head.Statement.{statement}
 use Rattle.track.proofs.after_head.Tie as tie
 
--- src/lib.rt:439:22
 enum-known-r : tie.Need-enum-known-r
 enum-known-r c = search needs
 
--- src/lib.rt:440:24
-enum-known-r-2 : tie.Need-enum-known-r-2
-enum-known-r-2 c = search needs
+enum-told : tie.Need-enum-told
+enum-told c = search needs
 
--- src/lib.rt:440:30
-after-header-requires : tie.Need-after-header-requires
-after-header-requires c κs = search needs
+refused-head-requires : tie.Need-refused-head-requires
+refused-head-requires c κs = search needs
 
--- src/lib.rt:441:23
-enum-known-r-3 : tie.Need-enum-known-r-3
-enum-known-r-3 c = search needs
-
--- src/lib.rt:443:28
 worse-requires : tie.Need-worse-requires
 worse-requires c κs = search needs
 
--- src/lib.rt:435:1
 returns : tie.Need-returns
 unfolding lift
 returns c =
-    let a = c .before .before .before .args in
-    λ id f. sym (ap (λ (q : HeadStep). afterHead id (a .span) (a .so) (a .n) (viewHead f q)) (c .before .r .given .1))
+    let a = c .before .before .before .before .args in
+    let e = c .before .before .enum-told .given .1 in
+    λ id f. ap (λ (x : Refusal). bad x (left f)) (c .worse .ensures ∙ ap (λ (x : Refusal). lowest x (besideTraf (a .span) (a .so .track) (a .n))) (c .before .refused-head .ensures ∙ ap refusalHead e))
+    ∙ sym (ap (λ (q : HeadStep). afterHead id (a .span) (a .so) (a .n) (viewHead f q)) e)
 
--- src/lib.rt:435:1
+enum-known-head : tie.Need-enum-known-head
+enum-known-head c = search needs
+
+enum-known-head-2 : tie.Need-enum-known-head-2
+enum-known-head-2 c = search needs
+
+after-header-requires : tie.Need-after-header-requires
+after-header-requires c κs = search needs
+
 returns-2 : tie.Need-returns-2
 unfolding lift
 returns-2 c =
-    let a = c .before .before .before .before .args in
-    λ id f. c .after-header .ensures id f
-    ∙ sym (ap (λ (q : HeadStep). afterHead id (a .span) (a .so) (a .n) (viewHead f q)) (c .before .before .r2 .given .1))
+    let a = c .before .before .before .before .before .before .args in
+    let e = c .before .before .before .before .r .given .1 ∙ ap heads.Taken (c .before .head .given .1) in
+    λ id f. sym (ap (λ (q : HeadStep). afterHead id (a .span) (a .so) (a .n) (viewHead f q)) e)
 
--- src/lib.rt:435:1
 returns-3 : tie.Need-returns-3
 unfolding lift
 returns-3 c =
-    let a = c .before .before .before .before .args in
-    λ id f. ap (λ (x : Refusal). bad x (left f)) (c .worse .ensures)
-    ∙ sym (ap (λ (q : HeadStep). afterHead id (a .span) (a .so) (a .n) (viewHead f q)) (c .before .before .r3 .given .1))
+    let a = c .before .before .before .before .before .before .before .args in
+    let e = c .before .before .before .before .before .r .given .1 ∙ ap heads.Taken (c .before .before .head2 .given .1) in
+    λ id f. c .after-header .ensures id f
+    ∙ sym (ap (λ (q : HeadStep). afterHead id (a .span) (a .so) (a .n) (viewHead f q)) e)
 
 pub after-head-spec : {M : Type 1} → statement M
 after-head-spec =
     tie.close
     (tie.spec
     enum-known-r
-    enum-known-r-2
-    after-header-requires
-    enum-known-r-3
+    enum-told
+    refused-head-requires
     worse-requires
     returns
+    enum-known-head
+    enum-known-head-2
+    after-header-requires
     returns-2
     returns-3)
