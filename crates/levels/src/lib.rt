@@ -12,7 +12,7 @@ ghost use Rattle.state.specs.Rows as faults;
 ghost use Rattle.state.specs.Levels as defs;
 ghost use Rattle.state.specs.Stages.{leafRow};
 ghost use Rattle.state.specs.Ranges.{Within, levelsBounds};
-ghost use Rattle.levels.specs.Views.{entryOf, openOf, stillFour};
+ghost use Rattle.levels.specs.Views.{entryOf, readOf, openOf, stillFour};
 use state::Level;
 use state::Levels;
 use state::Slot;
@@ -33,6 +33,12 @@ pub struct Entry {
     pub size: u64,
     pub duration: u64,
     pub sap: u64,
+}
+
+// An entry that was read back: whether it is an index entry and where it stands, or that it was altered between calls.
+pub enum EntryRead {
+    Stands(bool, Slot),
+    Altered,
 }
 
 // The indexes that still have an entry to come, or none.
@@ -59,7 +65,7 @@ pub fn word_at(work: &[u8], i: usize) -> u64
     ((a * 256 + b) * 256 + c) * 256 + d
 }
 
-pub fn entry_at(work: &[u8], i: usize) -> Entry
+fn entry_at(work: &[u8], i: usize) -> Entry
     requires { ⌜ i + 12 ≤ length (now work) ⌝ }
     ensures { λ r. ⌜ entryOf r ≡ defs.entryAt (now (work .entry)) i ⌝ }
 {
@@ -74,7 +80,7 @@ pub fn entry_at(work: &[u8], i: usize) -> Entry
     }
 }
 
-pub fn inmost(ls: Levels) -> Level
+fn inmost(ls: Levels) -> Level
     ensures { λ r. ⌜ r ≡ defs.inmost ls ⌝ }
 {
     match ls {
@@ -97,7 +103,7 @@ pub fn depth(ls: Levels) -> u64
 }
 
 // Where the next entry of the innermost index is stored.
-pub fn entry_place(ls: Levels) -> u64
+fn entry_place(ls: Levels) -> u64
     requires { ⌜ Within (levelsBounds ls) ⌝ }
     ensures { λ r. ⌜ r ≡ defs.entryPlace ls ⌝ }
 {
@@ -107,7 +113,7 @@ pub fn entry_place(ls: Levels) -> u64
 }
 
 // The next entry of the innermost index, read back.
-pub fn next_entry(work: &[u8], ls: Levels) -> Entry
+fn next_entry(work: &[u8], ls: Levels) -> Entry
     requires { ⌜ (workBytes ≤ length (now work)) × Within (levelsBounds ls) × (defs.inmost ls .next < defs.inmost ls .count) ⌝ }
     ensures { λ r. ⌜ entryOf r ≡ defs.entryAt (now (work .entry)) (defs.entryPlace ls) ⌝ }
 {
@@ -241,7 +247,7 @@ fn fills(l: Level, e: Entry, at: u64, n: u64) -> bool
 }
 
 // Whether an entry read back at byte `n`, when the time line stands at `at`, cannot be what its index stored.
-pub fn altered(l: Level, e: Entry, at: u64, n: u64) -> bool
+fn altered(l: Level, e: Entry, at: u64, n: u64) -> bool
     ensures { λ r. ⌜ r ≡ defs.altered l (entryOf e) at n ⌝ }
 {
     if e.size == 0 {
@@ -257,7 +263,7 @@ pub fn altered(l: Level, e: Entry, at: u64, n: u64) -> bool
 }
 
 // Where an entry stands, and when it ends.
-pub fn slot_of(e: Entry, at: u64, n: u64) -> Slot
+fn slot_of(e: Entry, at: u64, n: u64) -> Slot
     requires { ⌜ (n + e .size < timeLimit) × (at + e .duration < timeLimit) ⌝ }
     ensures { λ r. ⌜ r ≡ defs.slotOf (entryOf e) at n ⌝ }
 {
@@ -269,8 +275,27 @@ pub fn slot_of(e: Entry, at: u64, n: u64) -> Slot
     }
 }
 
+// What an entry comes to.
+fn entry_answer(l: Level, e: Entry, at: u64, n: u64) -> EntryRead
+    ensures { λ r. ⌜ r ≡ readOf l (entryOf e) at n ⌝ }
+{
+    if altered(l, e, at, n) {
+        return EntryRead::Altered;
+    }
+    EntryRead::Stands(e.inner, slot_of(e, at, n))
+}
+
+// The next entry of the innermost index, read back at byte `n`, when the time line stands at `at`.
+pub fn read_back(work: &[u8], ls: Levels, at: u64, n: u64) -> EntryRead
+    requires { ⌜ (workBytes ≤ length (now work)) × Within (levelsBounds ls) × (defs.inmost ls .next < defs.inmost ls .count) ⌝ }
+    ensures { λ r. ⌜ r ≡ readOf (defs.inmost ls) (defs.entryAt (now (work .entry)) (defs.entryPlace ls)) at n ⌝ }
+{
+    let e = next_entry(work, ls);
+    entry_answer(inmost(ls), e, at, n)
+}
+
 // How many records a leaf table of this length takes.
-pub fn room(len: usize) -> u64
+fn room(len: usize) -> u64
     ensures { λ r. ⌜ ((table : List ℕ) → length table ≡ len → r ≡ flows.room table) ⌝ }
 {
     let whole = (len / 6) as u64;

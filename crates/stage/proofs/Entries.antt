@@ -3,6 +3,8 @@ use Prim.Native.Nat.{ℕ, _≤_, _<_}
 use mathlib.Core.Path.{_≡_, refl, ap, sym, subst, _∙_}
 use mathlib.Core.List.{List, [], _∷_, _++_}
 use mathlib.Core.Bool.{Bool, true, false}
+use native.Mathlib.Omega.{arith}
+use Rattle.basics.specs.Choose.{pick}
 use Rattle.machine.specs.Faults.{refusal, shows, lowest, unless}
 use Rattle.machine.specs.Run.{Sub, go, bad, lift}
 use Rattle.machine.specs.Lists.{stepBox}
@@ -29,6 +31,9 @@ use Rattle.state.specs.declared.OpeningBoxes.{OpeningBoxes}
 use Rattle.state.specs.declared.GapBoxes.{GapBoxes}
 use Rattle.state.specs.declared.LeafBoxes.{LeafBoxes}
 use Rattle.state.proofs.RangeTests.{within-second, three-within, four-within}
+use Rattle.levels.specs.Views.{readOf}
+use Rattle.levels.specs.declared.EntryRead.{EntryRead}
+use Rattle.levels.specs.declared.EntryRead.the-variants as read
 use Rattle.stage.specs.declared.Running.{Running}
 use Rattle.stage.specs.declared.StageStep.{StageStep}
 use Rattle.stage.specs.Views.{flowing, viewStage}
@@ -56,15 +61,31 @@ module _ (top : Top) (ls : Levels) (f : Flow) (n b : ℕ) where
   unfolding stepStage stepSlot
   slot-leaf inner slot e = rw e
 
-  -- an entry that is not what its index stored, and one that may be
-  pub entry-altered : (l : Level) (e : Entry) (t : Bool) → l ≡ inmost ls → t ≡ altered l e (f .now) n → t ≡ true → bad (refusal 12 n) (left f) ≡ stepEntry top ls e f n b
-  unfolding stepEntry shows unless lowest
-  entry-altered l e t i k h = rw (ap (λ (m : Level). altered m e (f .now) n) (sym i) ∙ sym k ∙ h)
+-- what an entry read back comes to, by whether it was altered
+chosen : (t i inner : Bool) (s slot : Slot) → pick t read.Altered (read.Stands i s) ≡ read.Stands inner slot → (t ≡ false) × (i ≡ inner) × (s ≡ slot)
+unfolding pick
+chosen true i inner s slot e = let y : _≡_ {A = ℕ} 0 1 = cc in absurd (omega arith)
+chosen false i inner s slot e = (refl, cc, cc)
 
-  pub entry-kept : (l : Level) (e : Entry) (t : Bool) (slot : Slot) (taken : Levels) → l ≡ inmost ls → t ≡ altered l e (f .now) n → t ≡ false →
-      slot ≡ slotOf e (f .now) n → taken ≡ tookEntry ls → stepSlot top taken (e .inner) slot f n b ≡ stepEntry top ls e f n b
-  unfolding stepEntry shows unless
-  entry-kept l e t slot taken i k h p q = rw (p, q, ap (λ (m : Level). altered m e (f .now) n) (sym i) ∙ sym k ∙ h)
+refused : (t i : Bool) (s : Slot) → pick t read.Altered (read.Stands i s) ≡ read.Altered → t ≡ true
+unfolding pick
+refused true i s e = refl
+refused false i s e = let y : _≡_ {A = ℕ} 0 1 = cc in absurd (omega arith)
+
+module _ (top : Top) (ls : Levels) (f : Flow) (n b : ℕ) (r : EntryRead) (k : r ≡ readOf (inmost ls) (entryAt (f .work) (entryPlace ls)) (f .now) n) where
+  -- an entry that is not what its index stored
+  pub entry-altered : r ≡ read.Altered → bad (refusal 12 n) (left f) ≡ stepStage (stage.Entry top ls) f n b
+  unfolding stepStage stepEntry shows unless lowest
+  entry-altered e = rw (refused _ _ _ (sym k ∙ e))
+
+  -- one that may be
+  pub entry-stands : (inner : Bool) (slot : Slot) (taken : Levels) → r ≡ read.Stands inner slot → taken ≡ tookEntry ls →
+      stepSlot top taken inner slot f n b ≡ stepStage (stage.Entry top ls) f n b
+  unfolding stepStage stepEntry shows unless
+  entry-stands inner slot taken e q = let c = chosen _ _ _ _ _ (sym k ∙ e) in rw (q, sym (c .1), sym (c .2), c .0)
+
+  pub entry-until : (inner : Bool) (slot : Slot) → r ≡ read.Stands inner slot → f .now ≤ slot .until
+  entry-until inner slot e = let c = chosen _ _ _ _ _ (sym k ∙ e) in omega (arith, ap (λ (s : Slot). s .until) (c .2))
 
 pub leaf-first : (last : ℕ) → Within (leafBounds (leafBox.Head (leafSo0 last) at.First))
 unfolding leafBounds headBounds
@@ -86,11 +107,6 @@ module _ (top : Top) (ls : Levels) (slot : Slot) where
       (table : List ℕ) → viewStage (r .leaves) work' table p ≡ stepStage (stage.Inner top ls slot s) (flowing r work table) n b
   inner-law r s n b d work work' q p e k l table =
       k work' table ∙ ap (liftInner top ls slot) (l (r .leaves) (r .last) table) ∙ inner-step top ls (flowing r work table) n b slot d s e
-
--- an entry is read back from the work area
-pub entry-read : (top : Top) (ls : Levels) (e : Entry) (f : Flow) (n b : ℕ) → e ≡ entryAt (f .work) (entryPlace ls) → stepEntry top ls e f n b ≡ stepStage (stage.Entry top ls) f n b
-unfolding stepStage
-entry-read top ls e f n b k = ap (λ (x : Entry). stepEntry top ls x f n b) k
 
 -- a stage by another name
 pub stage-as : (s t : Stage) (f : Flow) (n b : ℕ) (x : Sub Stage Top Flow Left) → s ≡ t → x ≡ stepStage t f n b → x ≡ stepStage s f n b

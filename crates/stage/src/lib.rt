@@ -1,7 +1,7 @@
 // One byte of a segment, whatever stage the reading is in.
 use inner::InnerStep;
 use leaf::LeafStep;
-use levels::Entry;
+use levels::EntryRead;
 use levels::Still;
 use machine::Head;
 use machine::Refusal;
@@ -28,7 +28,7 @@ ghost use Rattle.state.specs.declared.Stage.the-variants as stages;
 ghost use Rattle.state.specs.Ranges.{Within, openingBounds, gapBounds, leafBounds, levelsBounds, innerBounds, stageBounds};
 ghost use Rattle.state.specs.Levels.{inmost};
 ghost use Rattle.state.specs.Stages as defs;
-ghost use Rattle.levels.specs.Views.{openOf, entryOf};
+ghost use Rattle.levels.specs.Views.{openOf};
 ghost use Rattle.opening.specs.Views.{viewOpening, viewGap};
 ghost use Rattle.leaf.specs.Leaf.{viewLeaf};
 ghost use Rattle.inner.specs.Views.{viewInner};
@@ -327,36 +327,7 @@ fn slot_byte(
     )
 }
 
-// The first byte of an entry that was read back: what it says must be what its index stored.
-fn entry_byte(
-    top: Top,
-    ls: Levels,
-    e: Entry,
-    r: Running,
-    n: u64,
-    b: u8,
-    work: &mut [u8],
-    table: &mut [u64],
-) -> StageStep
-    requires { ⌜ (n < limit) × (workBytes ≤ length (now work)) × (r .leaves ≤ mostRecords) × Within (levelsBounds ls) ⌝ }
-    ensures { λ q. ⌜
-        viewStage (r .leaves) (now (work .exit)) (now (table .exit)) q
-        ≡ defs.stepEntry top ls (entryOf e) (flowing r (now (work .entry)) (now (table .entry))) n b
-        ⌝ }
-{
-    let l = levels::inmost(ls);
-    if levels::altered(l, e, r.now, n) {
-        return StageStep::Bad(Refusal {
-            number: 12,
-            place: n,
-        });
-    }
-    let slot = levels::slot_of(e, r.now, n);
-    let taken = levels::took_entry(ls);
-    slot_byte(top, taken, e.inner, slot, r, n, b, work, table)
-}
-
-// The first byte of an entry, which is read back from the work area.
+// The first byte of an entry, which is read back from the work area: what it says must be what its index stored.
 fn entry_stage(
     top: Top,
     ls: Levels,
@@ -374,8 +345,15 @@ fn entry_stage(
         ≡ defs.stepStage (stages.Entry top ls) (flowing r (now (work .entry)) (now (table .entry))) n b
         ⌝ }
 {
-    let e = levels::next_entry(work, ls);
-    entry_byte(top, ls, e, r, n, b, work, table)
+    let read = levels::read_back(work, ls, r.now, n);
+    let EntryRead::Stands(inner, slot) = read else {
+        return StageStep::Bad(Refusal {
+            number: 12,
+            place: n,
+        });
+    };
+    let taken = levels::took_entry(ls);
+    slot_byte(top, taken, inner, slot, r, n, b, work, table)
 }
 
 // A byte of the segment; `n` bytes came before it.

@@ -1,25 +1,63 @@
 use mathlib.Core.Path.{_∙_}
 use Rattle.stage.specs.Views.{flowing}
-use Rattle.stage.proofs.Entries.{entry-read}
+use Rattle.stage.proofs.Entries.{entry-altered, entry-stands, entry-until}
 use borrow.Author.Needs.{needs}
 use Rattle.stage.proofs.entry_stage.Statement.{statement}
 use Rattle.stage.proofs.entry_stage.Tie as tie
 
-next-entry-requires : tie.Need-next-entry-requires
-next-entry-requires c κs = search needs
+read-back-requires : tie.Need-read-back-requires
+read-back-requires c κs = search needs
 
-entry-byte-requires : tie.Need-entry-byte-requires
-entry-byte-requires c κs = search needs
+enum-known-read : tie.Need-enum-known-read
+enum-known-read c = search needs
+
+enum-told : tie.Need-enum-told
+enum-told c = search needs
 
 same-length : tie.Need-same-length
 same-length c = search needs
 
+returns : tie.Need-returns
+returns c =
+    let a = c .before .before .before .before .before .before .args in
+    entry-altered (a .top) (a .ls) (flowing (a .r) (a .work .now) (a .table .now)) (a .n) (a .b) _ (c .before .before .read-back .ensures) (c .enum-told .given .1)
+
+took-entry-requires : tie.Need-took-entry-requires
+took-entry-requires c κs = search needs
+
+slot-byte-requires : tie.Need-slot-byte-requires
+slot-byte-requires c κs =
+    let d = c .before .before .before .before .before .before .before .before .before .before in
+    let a = d .args in (
+      d .pre .0,
+      d .pre .1,
+      d .pre .2,
+      entry-until (a .top) (a .ls) (flowing (a .r) (a .work .now) (a .table .now)) (a .n) (a .b) _ (c .before .before .before .before .before .before .read-back .ensures) _ _ (c .before .before .before .before .read .given .1),
+    )
+
 same-length-2 : tie.Need-same-length-2
 same-length-2 c = search needs
 
-returns : tie.Need-returns
-returns c = c .before .before .before .before .entry-byte .ensures ∙ entry-read (c .before .before .before .before .before .before .before .before .before .before .before .args .top) (c .before .before .before .before .before .before .before .before .before .before .before .args .ls) _ (flowing (c .before .before .before .before .before .before .before .before .before .before .before .args .r) (c .before .before .before .before .before .before .before .before .before .before .before .args .work .now) (c .before .before .before .before .before .before .before .before .before .before .before .args .table .now)) (c .before .before .before .before .before .before .before .before .before .before .before .args .n) (c .before .before .before .before .before .before .before .before .before .before .before .args .b) (c .before .before .before .before .before .before .before .next-entry .ensures)
+same-length-3 : tie.Need-same-length-3
+same-length-3 c = search needs
+
+returns-2 : tie.Need-returns-2
+returns-2 c =
+    let a = c .before .before .before .before .before .before .before .before .before .before .before .before .before .before .before .args in
+    c .before .before .before .before .slot-byte .ensures
+    ∙ entry-stands (a .top) (a .ls) (flowing (a .r) (a .work .now) (a .table .now)) (a .n) (a .b) _ (c .before .before .before .before .before .before .before .before .before .before .before .read-back .ensures) _ _ _ (c .before .before .before .before .before .before .before .before .before .read .given .1) (c .before .before .before .before .before .before .before .took-entry .ensures)
 
 pub entry-stage-spec : {M : Type 1} → statement M
 entry-stage-spec =
-    tie.close (tie.spec next-entry-requires entry-byte-requires same-length same-length-2 returns)
+    tie.close
+    (tie.spec
+    read-back-requires
+    enum-known-read
+    enum-told
+    same-length
+    returns
+    took-entry-requires
+    slot-byte-requires
+    same-length-2
+    same-length-3
+    returns-2)

@@ -1,0 +1,30 @@
+use mathlib.Core.Path.{ap, sym, _∙_}
+use native.Mathlib.Omega.{arith}
+use Rattle.basics.proofs.Picks.{pick-yes, pick-no}
+use Rattle.state.specs.declared.Slot.{Slot}
+use Rattle.levels.specs.declared.EntryRead.the-variants as read
+use Rattle.levels.specs.Views.{entryOf}
+use Rattle.levels.proofs.Sums.{unaltered}
+use borrow.Author.Needs.{needs}
+use Rattle.levels.proofs.entry_answer.Statement.{statement}
+use Rattle.levels.proofs.entry_answer.Tie as tie
+
+altered-requires : tie.Need-altered-requires
+altered-requires c κs = search needs
+
+returns : tie.Need-returns
+returns c = sym (pick-yes _ _ _ (sym (c .before .altered .ensures) ∙ c .if1 .taken))
+
+slot-of-requires : tie.Need-slot-of-requires
+slot-of-requires c κs =
+    let a = c .before .before .args in
+    let k = unaltered (a .l) (entryOf (a .e)) (a .at) (a .n) (sym (c .before .altered .ensures) ∙ c .if1 .left) in
+    (omega (arith, k .0), omega (arith, k .1))
+
+returns-2 : tie.Need-returns-2
+returns-2 c =
+    ap (λ (s : Slot). read.Stands (c .before .before .before .args .e .inner) s) (c .slot-of .ensures)
+    ∙ sym (pick-no _ _ _ (sym (c .before .before .altered .ensures) ∙ c .before .if1 .left))
+
+pub entry-answer-spec : {M : Type 1} → statement M
+entry-answer-spec = tie.close (tie.spec altered-requires returns slot-of-requires returns-2)

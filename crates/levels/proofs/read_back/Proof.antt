@@ -1,0 +1,27 @@
+use mathlib.Core.Path.{ap, _∙_}
+use Rattle.state.specs.declared.Level.{Level}
+use Rattle.state.specs.Levels.{Entry, inmost}
+use Rattle.levels.specs.Views.{entryOf, readOf}
+use borrow.Author.Needs.{needs}
+use Rattle.levels.proofs.read_back.Statement.{statement}
+use Rattle.levels.proofs.read_back.Tie as tie
+
+next-entry-requires : tie.Need-next-entry-requires
+next-entry-requires c κs = search needs
+
+inmost-requires : tie.Need-inmost-requires
+inmost-requires c κs = search needs
+
+entry-answer-requires : tie.Need-entry-answer-requires
+entry-answer-requires c κs = search needs
+
+returns : tie.Need-returns
+returns c =
+    let a = c .before .before .before .before .args in
+    c .entry-answer .ensures
+    ∙ ap (λ (l : Level). readOf l (entryOf (c .before .before .next-entry .result)) (a .at) (a .n)) (c .before .inmost .ensures)
+    ∙ ap (λ (e : Entry). readOf (inmost (a .ls)) e (a .at) (a .n)) (c .before .before .next-entry .ensures)
+
+pub read-back-spec : {M : Type 1} → statement M
+read-back-spec =
+    tie.close (tie.spec next-entry-requires inmost-requires entry-answer-requires returns)
