@@ -28,9 +28,9 @@ use Rattle.state.specs.Ranges.{Within, stageBounds, bounds, inRange, InRange}
 use Rattle.state.proofs.Jump.{past-none, passing-there, passing-limit, run-passing}
 use Rattle.state.proofs.Cuts.{stateNext, state-join, feed-short, feed-outside, feed-inside}
 use Rattle.state.proofs.Ranges.{feed-state-kept}
-use Rattle.stage.specs.declared.StageStep.{StageStep}
-use Rattle.stage.specs.declared.StageStep.the-variants as steps
-use Rattle.stage.specs.Views.{viewStage}
+use Rattle.onward.specs.declared.StageStep.{StageStep}
+use Rattle.onward.specs.declared.StageStep.the-variants as steps
+use Rattle.onward.specs.Views.{viewStage}
 use Rattle.feed.specs.Answers.{answered, stepped, passes, passedOn, Fitting, Advanced}
 
 -- a state and its buffers, with what feed answers for them

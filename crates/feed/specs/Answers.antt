@@ -12,8 +12,8 @@ use Rattle.state.specs.declared.State.{State}
 use Rattle.state.specs.declared.State.the-variants as state
 use Rattle.state.specs.declared.FeedAnswer.{FeedAnswer}
 use Rattle.state.specs.declared.FeedAnswer.the-variants as feeds
-use Rattle.stage.specs.declared.StageStep.{StageStep}
-use Rattle.stage.specs.declared.StageStep.the-variants as steps
+use Rattle.onward.specs.declared.StageStep.{StageStep}
+use Rattle.onward.specs.declared.StageStep.the-variants as steps
 
 unfoldable pub answered : State → FeedAnswer
 answered (state.Reading n leaves now last s) = feeds.Read n

@@ -4,9 +4,9 @@ pub mod start;
 
 use jump::passing_bytes;
 use machine::Refusal;
+use onward::Running;
+use onward::StageStep;
 use range::in_range;
-use stage::Running;
-use stage::StageStep;
 use stage::stage_byte;
 use state::FeedAnswer;
 use state::Stage;

@@ -34,13 +34,9 @@ use Rattle.state.proofs.RangeTests.{within-second, three-within, four-within}
 use Rattle.levels.specs.Views.{readOf}
 use Rattle.levels.specs.declared.EntryRead.{EntryRead}
 use Rattle.levels.specs.declared.EntryRead.the-variants as read
-use Rattle.stage.specs.declared.Running.{Running}
-use Rattle.stage.specs.declared.StageStep.{StageStep}
-use Rattle.stage.specs.Views.{flowing, viewStage}
-
-pub wrap-box : (s : InnerBox) → wrapInner (boxOf s) ≡ s
-wrap-box (inners.Head h) = refl
-wrap-box (inners.Body span s) = refl
+use Rattle.onward.specs.declared.Running.{Running}
+use Rattle.onward.specs.declared.StageStep.{StageStep}
+use Rattle.onward.specs.Views.{flowing, viewStage}
 
 pub inner-within : (ls : Levels) (d : ℕ) (s : InnerBox) → d ≡ depth ls → Within (innerBounds ls s) → Within (boxBounds d s)
 unfolding innerBounds boxBounds
@@ -97,10 +93,6 @@ inner-first ls = tt
 
 -- what a byte of the first box makes of the stage
 module _ (top : Top) (ls : Levels) (slot : Slot) where
-  pub inner-goes : (q : InnerStep) (first : InnerBox) (f : Flow) → q ≡ innerStep.Go first → go (stage.Inner top ls slot first) f ≡ liftInner top ls slot (viewInner f q)
-  unfolding lift
-  inner-goes q first f e = rw e (ap (λ (s : InnerBox). go (stage.Inner top ls slot s) f) (sym (wrap-box first)))
-
   pub inner-law : (r : Running) (s : InnerBox) (n b d : ℕ) (work work' : List ℕ) (q : InnerStep) (p : StageStep) → d ≡ depth ls →
       ((w t : List ℕ) → viewStage (r .leaves) w t p ≡ liftInner top ls slot (viewInner (flowing r w t) q)) →
       ((leaves last : ℕ) (table : List ℕ) → viewInner (flowOf leaves (r .now) last work' table) q ≡ stepBox (innerKind top slot d) (boxOf s) (flowOf leaves (r .now) last work table) n b) →

@@ -28,20 +28,10 @@ use Rattle.state.specs.Stages.{follow, topOf, topLevel, indexEnds, leafRow, lif
 use Rattle.leaf.specs.Leaf.{viewLeaf}
 use Rattle.leaf.specs.declared.LeafStep.{LeafStep}
 use Rattle.leaf.specs.declared.LeafStep.the-variants as leaves
-use Rattle.stage.specs.declared.Running.{Running}
-use Rattle.stage.specs.declared.StageStep.{StageStep}
-use Rattle.stage.specs.Views.{flowing, viewStage}
-use Rattle.stage.specs.Arms.{liftOpening, liftGap, tableAfter}
-
--- the top index ends: the material follows at once, or the gap does
-module _ (x : Index) (f : Flow) (n : ℕ) where
-  pub material-follows : x .offset ≡ 0 → follow (topOf x) (levels.One (topLevel x n)) (withNow f (x .time)) ≡ indexEnds x f n
-  unfolding indexEnds
-  material-follows e = sym (pick-yes _ _ _ (eq-eqb (x .offset) 0 e))
-
-  pub gap-follows : (x .offset ≡ 0 → ⊥) → go (stage.Gap (topOf x) (topLevel x n) (n + x .offset) (gaps.Head at.First)) (withNow f (x .time)) ≡ indexEnds x f n
-  unfolding indexEnds
-  gap-follows e = sym (pick-no _ _ _ (ne-eqb (x .offset) 0 e))
+use Rattle.onward.specs.declared.Running.{Running}
+use Rattle.onward.specs.declared.StageStep.{StageStep}
+use Rattle.onward.specs.Views.{flowing, viewStage}
+use Rattle.onward.specs.Arms.{liftOpening, liftGap, tableAfter}
 
 pub opening-step : (brand : ℕ) (s : OpeningBoxes) (f : Flow) (n b : ℕ) → liftOpening brand (n + 1) (stepOpening brand s f n b) ≡ stepStage (stage.Opening brand s) f n b
 unfolding stepStage
@@ -54,20 +44,6 @@ gap-step top l end s f n b = refl
 module _ (top : Top) (ls : Levels) (slot : Slot) (r : Running) (work table : List ℕ) where
   abbrev tableIn : LeafStep → List ℕ
   tableIn q = tableAfter (r .leaves) slot (r .now) q table
-
-  -- a leaf is listed
-  pub leaf-done : (seen : Seen) (p : StageStep) →
-      viewStage (r .leaves) work (putAll table (recordNumbers * r .leaves) (leafRow slot (r .now) (seen .first))) p
-      ≡ follow top ls (flowOf (r .leaves + 1) (slot .until) (seen .last) work (putAll table (recordNumbers * r .leaves) (leafRow slot (r .now) (seen .first)))) →
-      viewStage (r .leaves) work (tableIn (leaves.Done seen)) p ≡ liftLeaf top ls slot (viewLeaf (flowing r work table) (leaves.Done seen))
-  unfolding tableAfter lift listed
-  leaf-done seen p e =
-      e
-      ∙ ap (λ (k : ℕ). follow top ls (flowOf k (slot .until) (seen .last) work (putAll table (recordNumbers * r .leaves) (leafRow slot (r .now) (seen .first))))) (add-one (r .leaves))
-
-  pub leaf-goes : (s : LeafBoxes) → go (stage.Leaf top ls slot s) (flowOf (r .leaves) (r .now) (r .last) work (tableIn (leaves.Go s))) ≡ liftLeaf top ls slot (viewLeaf (flowing r work table) (leaves.Go s))
-  unfolding tableAfter lift
-  leaf-goes s = refl
 
   -- a leaf's byte, with its record put where it is done
   pub leaf-step : (s : LeafBoxes) (n b : ℕ) (q : LeafStep) (table' : List ℕ) (p : StageStep) → table' ≡ tableIn q →

@@ -7,7 +7,7 @@ use Rattle.state.specs.declared.State.{State}
 use Rattle.state.specs.declared.State.the-variants as state
 use Rattle.state.specs.Ranges.{InRange}
 use Rattle.state.specs.Calls.{feedState}
-use Rattle.stage.specs.declared.StageStep.{StageStep}
+use Rattle.onward.specs.declared.StageStep.{StageStep}
 use Rattle.feed.specs.Answers.{answered, stepped}
 use Rattle.feed.proofs.Laws.{one-kept, left-with, fed-as, refused-stays, accepted-stays, reading-one, reading-past, ended-one, ended-past, reading-count, reading-leaves, reading-stage, ended-count}
 use borrow.Author.Needs.{needs}

@@ -1,5 +1,5 @@
 use mathlib.Core.Path.{_∙_}
-use Rattle.stage.specs.Views.{flowing}
+use Rattle.onward.specs.Views.{flowing}
 use Rattle.stage.proofs.Entries.{entry-altered, entry-stands, entry-until}
 use borrow.Author.Needs.{needs}
 use Rattle.stage.proofs.entry_stage.Statement.{statement}

@@ -1,6 +1,6 @@
 use mathlib.Core.Path.{ap, _∙_}
-use Rattle.stage.specs.Views.{flowing}
-use Rattle.stage.specs.Arms.{liftGap}
+use Rattle.onward.specs.Views.{flowing}
+use Rattle.onward.specs.Arms.{liftGap}
 use Rattle.stage.proofs.Steps.{gap-step}
 use borrow.Author.Needs.{needs}
 use Rattle.stage.proofs.gap_stage.Statement.{statement}

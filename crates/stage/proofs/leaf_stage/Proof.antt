@@ -1,5 +1,5 @@
 use mathlib.Core.Path.{refl, sym}
-use Rattle.stage.specs.Views.{flowing}
+use Rattle.onward.specs.Views.{flowing}
 use Rattle.stage.proofs.Steps.{leaf-step}
 use borrow.Author.Needs.{needs}
 use Rattle.stage.proofs.leaf_stage.Statement.{statement}

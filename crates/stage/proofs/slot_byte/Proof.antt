@@ -1,5 +1,5 @@
 use mathlib.Core.Path.{_∙_}
-use Rattle.stage.specs.Views.{flowing}
+use Rattle.onward.specs.Views.{flowing}
 use Rattle.stage.proofs.Entries.{slot-inner, slot-leaf, leaf-first, inner-first}
 use borrow.Author.Needs.{needs}
 use Rattle.stage.proofs.slot_byte.Statement.{statement}

@@ -1,4 +1,4 @@
-use Rattle.stage.specs.Views.{flowing}
+use Rattle.onward.specs.Views.{flowing}
 use Rattle.stage.proofs.Entries.{stage-as, opening-within, gap-within, entry-within, leaf-within, inner-around}
 use borrow.Author.Needs.{needs}
 use Rattle.stage.proofs.stage_byte.Statement.{statement}

@@ -1,9 +1,9 @@
 use mathlib.Core.Path.{ap, sym, _∙_}
 use Rattle.leaf.specs.declared.LeafStep.{LeafStep}
-use Rattle.stage.specs.Arms.{tableAfter}
+use Rattle.onward.specs.Arms.{tableAfter}
 use borrow.Author.Needs.{needs}
-use Rattle.stage.proofs.row_after.Statement.{statement}
-use Rattle.stage.proofs.row_after.Tie as tie
+use Rattle.onward.proofs.row_after.Statement.{statement}
+use Rattle.onward.proofs.row_after.Tie as tie
 
 enum-told : tie.Need-enum-told
 enum-told c = search needs

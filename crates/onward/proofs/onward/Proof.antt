@@ -1,7 +1,7 @@
 use Rattle.state.specs.Stages as defs
 use borrow.Author.Needs.{needs}
-use Rattle.stage.proofs.onward.Statement.{statement}
-use Rattle.stage.proofs.onward.Tie as tie
+use Rattle.onward.proofs.onward.Statement.{statement}
+use Rattle.onward.proofs.onward.Tie as tie
 
 enum-known-still : tie.Need-enum-known-still
 enum-known-still c = search needs

@@ -1,9 +1,9 @@
 use mathlib.Core.Path.{_∙_}
-use Rattle.stage.specs.Views.{flowing}
-use Rattle.stage.proofs.Steps.{material-follows, gap-follows}
+use Rattle.onward.specs.Views.{flowing}
+use Rattle.onward.proofs.Laws.{material-follows, gap-follows}
 use borrow.Author.Needs.{needs}
-use Rattle.stage.proofs.index_ends.Statement.{statement}
-use Rattle.stage.proofs.index_ends.Tie as tie
+use Rattle.onward.proofs.index_ends.Statement.{statement}
+use Rattle.onward.proofs.index_ends.Tie as tie
 
 add-start : tie.Need-add-start
 add-start c = search needs

@@ -6,9 +6,9 @@ use Rattle.state.specs.declared.Stage.{Stage}
 use Rattle.state.specs.declared.Top.{Top}
 use Rattle.state.specs.Flow.{Flow, Left}
 use Rattle.state.specs.Calls.{flowOf, leftOf}
-use Rattle.stage.specs.declared.Running.{Running}
-use Rattle.stage.specs.declared.StageStep.{StageStep}
-use Rattle.stage.specs.declared.StageStep.the-variants as steps
+use Rattle.onward.specs.declared.Running.{Running}
+use Rattle.onward.specs.declared.StageStep.{StageStep}
+use Rattle.onward.specs.declared.StageStep.the-variants as steps
 
 -- the numbers that flow, with the two buffers
 abbrev pub flowing : Running → List ℕ → List ℕ → Flow

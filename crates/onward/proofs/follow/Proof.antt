@@ -2,10 +2,10 @@ use mathlib.Core.Path.{ap, _∙_}
 use mathlib.Core.Option.{Option}
 use Rattle.state.specs.declared.Levels.{Levels}
 use Rattle.state.specs.Stages as defs
-use Rattle.stage.specs.Views.{flowing}
+use Rattle.onward.specs.Views.{flowing}
 use borrow.Author.Needs.{needs}
-use Rattle.stage.proofs.follow.Statement.{statement}
-use Rattle.stage.proofs.follow.Tie as tie
+use Rattle.onward.proofs.follow.Statement.{statement}
+use Rattle.onward.proofs.follow.Tie as tie
 
 still-open-requires : tie.Need-still-open-requires
 still-open-requires c κs = search needs

@@ -3,11 +3,11 @@ use Rattle.machine.specs.Run.{lift}
 use Rattle.state.specs.Stages as defs
 use Rattle.segment.specs.Constants.{recordNumbers}
 use Rattle.state.specs.Flow.{putAll}
-use Rattle.stage.specs.Arms.{tableAfter}
-use Rattle.stage.proofs.Steps.{leaf-done}
+use Rattle.onward.specs.Arms.{tableAfter}
+use Rattle.onward.proofs.Laws.{leaf-done}
 use borrow.Author.Needs.{needs}
-use Rattle.stage.proofs.leaf_after.Statement.{statement}
-use Rattle.stage.proofs.leaf_after.Tie as tie
+use Rattle.onward.proofs.leaf_after.Statement.{statement}
+use Rattle.onward.proofs.leaf_after.Tie as tie
 
 enum-known-q : tie.Need-enum-known-q
 enum-known-q c = search needs

@@ -2,11 +2,11 @@ use mathlib.Core.Path.{ap, _∙_}
 use Rattle.machine.specs.Run.{lift}
 use Rattle.state.specs.declared.Levels.{Levels}
 use Rattle.state.specs.Stages as defs
-use Rattle.stage.specs.Views.{flowing}
-use Rattle.stage.proofs.Entries.{inner-goes}
+use Rattle.onward.specs.Views.{flowing}
+use Rattle.onward.proofs.Laws.{inner-goes}
 use borrow.Author.Needs.{needs}
-use Rattle.stage.proofs.inner_after.Statement.{statement}
-use Rattle.stage.proofs.inner_after.Tie as tie
+use Rattle.onward.proofs.inner_after.Statement.{statement}
+use Rattle.onward.proofs.inner_after.Tie as tie
 
 enum-known-q : tie.Need-enum-known-q
 enum-known-q c = search needs

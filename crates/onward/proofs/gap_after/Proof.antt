@@ -1,7 +1,7 @@
 use Rattle.machine.specs.Run.{lift}
 use borrow.Author.Needs.{needs}
-use Rattle.stage.proofs.gap_after.Statement.{statement}
-use Rattle.stage.proofs.gap_after.Tie as tie
+use Rattle.onward.proofs.gap_after.Statement.{statement}
+use Rattle.onward.proofs.gap_after.Tie as tie
 
 enum-known-q : tie.Need-enum-known-q
 enum-known-q c = search needs

@@ -1,10 +1,10 @@
 use mathlib.Core.Path.{subst}
 use Rattle.machine.specs.Run.{lift}
 use Rattle.opening.specs.declared.OpeningStep.{OpeningStep}
-use Rattle.stage.specs.Arms.{EndsIn}
+use Rattle.onward.specs.Arms.{EndsIn}
 use borrow.Author.Needs.{needs}
-use Rattle.stage.proofs.opening_after.Statement.{statement}
-use Rattle.stage.proofs.opening_after.Tie as tie
+use Rattle.onward.proofs.opening_after.Statement.{statement}
+use Rattle.onward.proofs.opening_after.Tie as tie
 
 enum-known-q : tie.Need-enum-known-q
 enum-known-q c = search needs
