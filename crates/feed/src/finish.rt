@@ -5,8 +5,6 @@ ghost use Rattle.state.specs.declared.State.the-variants as state;
 ghost use Rattle.state.specs.declared.FinishAnswer.the-variants as finishes;
 ghost use Rattle.state.specs.Calls.{finished, finishState, finishOf};
 use machine::Refusal;
-use onward::Running;
-use onward::StageStep;
 use range::in_range;
 use state::FinishAnswer;
 use state::State;

@@ -1,11 +1,11 @@
 -- One byte of an entry's first box from what its header or its body makes of the byte.
 use Prim.Native.Nat.{ℕ, suc}
 use mathlib.Core.Path.{_≡_, refl, ap, sym, _∙_}
-use mathlib.Core.List.{List, _++_}
-use Rattle.machine.specs.Faults.{refusal, unless}
-use Rattle.machine.specs.Run.{Sub, go, bad, lift}
+use mathlib.Core.List.{_++_}
+use Rattle.machine.specs.Faults.{refusal}
+use Rattle.machine.specs.Run.{go, bad, lift}
 use Rattle.machine.specs.Heads.{sizeFaults, stepHead}
-use Rattle.machine.specs.Lists.{headed, inHead, inBody, stepBox}
+use Rattle.machine.specs.Lists.{headed, stepBox}
 use Rattle.machine.specs.declared.Head.{Head}
 use Rattle.machine.specs.declared.Header.{Header}
 use Rattle.state.specs.declared.Span.{Span}
@@ -15,13 +15,13 @@ use Rattle.state.specs.declared.Sidx.{Sidx}
 use Rattle.state.specs.declared.Levels.{Levels}
 use Rattle.state.specs.declared.InnerBox.{InnerBox}
 use Rattle.state.specs.declared.InnerBox.the-variants as boxes
-use Rattle.state.specs.Flow.{Flow, Left, left}
+use Rattle.state.specs.Flow.{Flow, left}
 use Rattle.state.specs.Rows.{innerFaults}
 use Rattle.state.specs.Opening.{spanOf}
 use Rattle.state.specs.Sidx.{under, sidxStart, stepSidx}
 use Rattle.state.specs.Levels.{depth}
 use Rattle.state.specs.Stages.{innerKind}
-use Rattle.state.specs.Ranges.{Bound, innerBounds}
+use Rattle.state.specs.Ranges.{innerBounds}
 use Rattle.header.specs.Flaws.{flawOf}
 use Rattle.header.proofs.Flaws.{flaw-none, flaw-some}
 use Rattle.inner.specs.Views.{boxOf, headInner, bodyInner, boxBounds}

@@ -7,9 +7,11 @@ use state::MoofBoxes;
 use state::OpeningBody;
 use state::OpeningBoxes;
 use state::Stage;
+use state::State;
 use state::TrafBody;
 use state::TrafBoxes;
 ghost use mathlib.Core.Path.{_≡_};
+ghost use Rattle.jump.specs.Passes.{passes, passedOn, Fitting};
 ghost use Rattle.state.specs.Jump.{trafSkips, moofSkips, leafSkips, openingSkips, gapSkips, skips, least, passing};
 
 const LIMIT: u64 = 268435456;
@@ -121,7 +123,7 @@ fn lesser(a: u64, b: u64) -> u64
 }
 
 // How many of the bytes at hand pass at once, none of them the last of its body.
-pub fn passing_bytes(s: Stage, n: u64, rest: u64) -> u64
+fn passing_bytes(s: Stage, n: u64, rest: u64) -> u64
     ensures { λ r. ⌜ r ≡ passing s n rest ⌝ }
 {
     let stop = lesser(stage_skips(s), LIMIT);
@@ -129,4 +131,71 @@ pub fn passing_bytes(s: Stage, n: u64, rest: u64) -> u64
         return lesser(rest, 0);
     }
     lesser(rest, stop - n - 1)
+}
+
+// Of so many bytes at hand, how many pass at once.
+pub fn passing_now(s: State, rest: u64) -> u64
+    ensures { λ r. ⌜ r ≡ passes s rest ⌝ }
+{
+    match s {
+        State::Reading {
+            count,
+            leaves: _,
+            now: _,
+            last: _,
+            stage,
+        } => passing_bytes(stage, count, rest),
+        State::Ended {
+            count: _,
+            leaves: _,
+            top: _,
+        } => 0,
+        State::Refused {
+            count: _,
+            leaves: _,
+            refusal: _,
+        } => 0,
+        State::Accepted {
+            count: _,
+            leaves: _,
+            top: _,
+        } => 0,
+    }
+}
+
+// So many bytes of a skipped body are passed: only the count goes on.
+pub fn pass(s: State, k: u64) -> State
+    requires { ⌜ Fitting s k ⌝ }
+    ensures { λ r. ⌜ r ≡ passedOn s k ⌝ }
+{
+    match s {
+        State::Reading {
+            count,
+            leaves,
+            now,
+            last,
+            stage,
+        } => State::Reading {
+            count: count + k,
+            leaves,
+            now,
+            last,
+            stage,
+        },
+        State::Ended {
+            count: _,
+            leaves: _,
+            top: _,
+        } => s,
+        State::Refused {
+            count: _,
+            leaves: _,
+            refusal: _,
+        } => s,
+        State::Accepted {
+            count: _,
+            leaves: _,
+            top: _,
+        } => s,
+    }
 }

@@ -6,7 +6,7 @@ use mathlib.Core.Bool.{Bool, true, false}
 use native.Mathlib.Omega.{arith}
 use Rattle.basics.specs.Choose.{pick}
 use Rattle.machine.specs.Faults.{refusal, shows, lowest, unless}
-use Rattle.machine.specs.Run.{Sub, go, bad, lift}
+use Rattle.machine.specs.Run.{Sub, bad}
 use Rattle.machine.specs.Lists.{stepBox}
 use Rattle.machine.specs.declared.Head.the-variants as at
 use Rattle.state.specs.declared.Top.{Top}
@@ -20,12 +20,11 @@ use Rattle.state.specs.declared.Stage.{Stage}
 use Rattle.state.specs.declared.Stage.the-variants as stage
 use Rattle.state.specs.Flow.{Flow, Left, left}
 use Rattle.state.specs.Leaf.{leafSo0}
-use Rattle.state.specs.Levels.{Entry, entryAt, entryPlace, inmost, depth, altered, tookEntry, slotOf}
+use Rattle.state.specs.Levels.{Entry, entryAt, entryPlace, inmost, depth, altered, tookEntry}
 use Rattle.state.specs.Ranges.{atMost, below, Within, openingBounds, gapBounds, topBounds, levelBounds, levelsBounds, slotBounds, innerBounds, leafBounds, headBounds, stageBounds}
-use Rattle.state.specs.Stages.{innerKind, wrapInner, liftInner, stepSlot, stepEntry, stepStage}
+use Rattle.state.specs.Stages.{innerKind, liftInner, stepSlot, stepEntry, stepStage}
 use Rattle.inner.specs.Views.{boxOf, viewInner, boxBounds}
 use Rattle.inner.specs.declared.InnerStep.{InnerStep}
-use Rattle.inner.specs.declared.InnerStep.the-variants as innerStep
 use Rattle.state.specs.Calls.{flowOf}
 use Rattle.state.specs.declared.OpeningBoxes.{OpeningBoxes}
 use Rattle.state.specs.declared.GapBoxes.{GapBoxes}

@@ -1,33 +1,23 @@
 -- A stage's byte from what its part makes of the byte. The code counts `n + 1` bytes up to the one at hand.
-use Prim.Native.Nat.{ℕ, _+_, _*_}
-use mathlib.Core.Path.{_≡_, refl, ap, sym, _∙_}
+use Prim.Native.Nat.{ℕ, _+_}
+use mathlib.Core.Path.{_≡_, refl, ap, _∙_}
 use mathlib.Core.List.{List}
 use native.Mathlib.Numerals.{add-one}
-use borrow.Author.Tests.{eq-eqb, ne-eqb}
-use Rattle.basics.proofs.Picks.{pick-yes, pick-no}
-use Rattle.segment.specs.Constants.{recordNumbers}
-use Rattle.machine.specs.Run.{go, done, lift}
-use Rattle.machine.specs.declared.Head.the-variants as at
+use Rattle.machine.specs.Run.{done}
 use Rattle.state.specs.declared.Top.{Top}
 use Rattle.state.specs.declared.Level.{Level}
 use Rattle.state.specs.declared.Levels.{Levels}
-use Rattle.state.specs.declared.Levels.the-variants as levels
 use Rattle.state.specs.declared.Slot.{Slot}
-use Rattle.state.specs.declared.Seen.{Seen}
-use Rattle.state.specs.declared.Index.{Index}
 use Rattle.state.specs.declared.OpeningBoxes.{OpeningBoxes}
 use Rattle.state.specs.declared.GapBoxes.{GapBoxes}
-use Rattle.state.specs.declared.GapBoxes.the-variants as gaps
 use Rattle.state.specs.declared.LeafBoxes.{LeafBoxes}
 use Rattle.state.specs.declared.Stage.the-variants as stage
-use Rattle.state.specs.Flow.{Flow, withNow, putAll, listed}
+use Rattle.state.specs.Flow.{Flow}
 use Rattle.state.specs.Opening.{stepOpening}
 use Rattle.state.specs.Leaf.{stepLeaf}
-use Rattle.state.specs.Calls.{flowOf}
-use Rattle.state.specs.Stages.{follow, topOf, topLevel, indexEnds, leafRow, liftLeaf, stepGap, stepStage}
+use Rattle.state.specs.Stages.{liftLeaf, stepGap, stepStage}
 use Rattle.leaf.specs.Leaf.{viewLeaf}
 use Rattle.leaf.specs.declared.LeafStep.{LeafStep}
-use Rattle.leaf.specs.declared.LeafStep.the-variants as leaves
 use Rattle.onward.specs.declared.Running.{Running}
 use Rattle.onward.specs.declared.StageStep.{StageStep}
 use Rattle.onward.specs.Views.{flowing, viewStage}

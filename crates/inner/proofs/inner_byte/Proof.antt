@@ -8,18 +8,10 @@ use Rattle.inner.proofs.Steps.{inner-head-step, inner-body-step}
 use borrow.Author.Needs.{needs}
 use Rattle.inner.proofs.inner_byte.Statement.{statement}
 use Rattle.inner.proofs.inner_byte.Tie as tie
-use Rattle.inner.proofs.inner_byte.Reads as reads
-use Rattle.inner.proofs.inner_byte.Lts as lts
-use Rattle.header.proofs.head_byte.Reads as head-byte-reads
-use Rattle.index.proofs.index_byte.Reads as index-byte-reads
-use Rattle.inner.proofs.inner_head.Reads as inner-head-reads
-use Rattle.inner.proofs.inner_index.Reads as inner-index-reads
 
--- src/lib.rt:150:24
 enum-known-s : tie.Need-enum-known-s
 enum-known-s c = search needs
 
--- src/lib.rt:150:54
 head-byte-requires : tie.Need-head-byte-requires
 unfolding boxBounds
 head-byte-requires c κs = (
@@ -27,25 +19,20 @@ head-byte-requires c κs = (
   c .before .before .before .before .pre .2,
 )
 
--- src/lib.rt:150:30
 inner-head-requires : tie.Need-inner-head-requires
 inner-head-requires c κs = search needs
 
--- src/lib.rt:151:24
 enum-known-s-2 : tie.Need-enum-known-s-2
 enum-known-s-2 c = search needs
 
--- src/lib.rt:153:31
 index-byte-requires : tie.Need-index-byte-requires
 unfolding boxBounds
 index-byte-requires c κs = let w = subst (λ (q : InnerBox). Within (boxBounds (c .before .before .before .before .before .args .depth) q)) (c .before .before .s2 .given .1) (c .before .before .before .before .before .pre .0) in
     (w .0, c .before .before .before .before .before .pre .1, w .1, c .before .before .before .before .before .pre .2, c .before .before .before .before .before .pre .3)
 
--- src/lib.rt:153:13
 inner-index-requires : tie.Need-inner-index-requires
 inner-index-requires c κs = search needs
 
--- src/lib.rt:132:1
 returns : tie.Need-returns
 returns c = λ leaves last table.
     rw (c .before .before .before .s .given .1)
@@ -53,11 +40,9 @@ returns c = λ leaves last table.
     ∙ ap (headInner (c .before .before .before .before .before .before .args .top) (c .before .before .before .before .before .before .args .slot) (c .before .before .before .before .before .before .args .depth) (suc (c .before .before .before .before .before .before .args .n))) (c .before .head-byte .ensures (flowOf leaves (c .before .before .before .before .before .before .args .at) last _ table))
     ∙ inner-head-step (c .before .before .before .before .before .before .args .top) _ _ _ _ _ _)
 
--- src/lib.rt:132:1
 same-length : tie.Need-same-length
 same-length c = search needs
 
--- src/lib.rt:132:1
 returns-2 : tie.Need-returns-2
 returns-2 c = λ leaves last table.
     rw (c .before .before .before .before .before .before .s2 .given .1)

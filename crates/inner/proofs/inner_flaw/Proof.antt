@@ -2,47 +2,35 @@ use Rattle.inner.proofs.Flaws.{inner-size, inner-length, inner-styp, in
 use borrow.Author.Needs.{needs}
 use Rattle.inner.proofs.inner_flaw.Statement.{statement}
 use Rattle.inner.proofs.inner_flaw.Tie as tie
-use Rattle.inner.proofs.inner_flaw.Reads as reads
-use Rattle.inner.proofs.inner_flaw.Lts as lts
-use Rattle.header.proofs.length_flaw.Reads as length-flaw-reads
-use Rattle.header.proofs.size_flaw.Reads as size-flaw-reads
 
--- src/lib.rt:52:9
 size-flaw-requires : tie.Need-size-flaw-requires
 size-flaw-requires c κs = search needs
 
--- src/lib.rt:54:9
 returns : tie.Need-returns
 returns c = inner-size (c .before .before .args .end) (c .before .before .args .depth) (c .before .before .args .h) _ (c .before .size-flaw .ensures) (c .if1 .taken)
 
--- src/lib.rt:56:9
 length-flaw-requires : tie.Need-length-flaw-requires
 length-flaw-requires c κs = search needs
 
--- src/lib.rt:58:9
 returns-2 : tie.Need-returns-2
 returns-2 c = inner-length (c .before .before .before .before .args .end) (c .before .before .before .before .args .depth) (c .before .before .before .before .args .h) _ _ (c .before .before .before .size-flaw .ensures) (c .before .before .if1 .left)
     (c .before .length-flaw .ensures) (c .if2 .taken)
 
--- src/lib.rt:61:9
 returns-3 : tie.Need-returns-3
 returns-3 c = inner-styp (c .before .before .before .before .before .before .args .end) (c .before .before .before .before .before .before .args .depth) (c .before .before .before .before .before .before .args .h) _ _
     (c .before .before .before .before .before .size-flaw .ensures) (c .before .before .before .before .if1 .left)
     (c .before .before .before .length-flaw .ensures) (c .before .before .if2 .left) (c .if3 .taken)
 
--- src/lib.rt:64:9
 returns-4 : tie.Need-returns-4
 returns-4 c = inner-other (c .before .before .before .before .before .before .before .before .args .end) (c .before .before .before .before .before .before .before .before .args .depth) (c .before .before .before .before .before .before .before .before .args .h) _ _
     (c .before .before .before .before .before .before .before .size-flaw .ensures) (c .before .before .before .before .before .before .if1 .left)
     (c .before .before .before .before .before .length-flaw .ensures) (c .before .before .before .before .if2 .left) (c .before .before .if3 .left) (c .if4 .taken)
 
--- src/lib.rt:67:9
 returns-5 : tie.Need-returns-5
 returns-5 c = inner-deep (c .before .before .before .before .before .before .before .before .before .args .end) (c .before .before .before .before .before .before .before .before .before .args .depth) (c .before .before .before .before .before .before .before .before .before .args .h) _ _
     (c .before .before .before .before .before .before .before .before .size-flaw .ensures) (c .before .before .before .before .before .before .before .if1 .left)
     (c .before .before .before .before .before .before .length-flaw .ensures) (c .before .before .before .before .before .if2 .left) (c .before .before .before .if3 .left) (c .before .if4 .left) (c .if5 .taken)
 
--- src/lib.rt:49:1
 returns-6 : tie.Need-returns-6
 returns-6 c = inner-none (c .before .before .before .before .before .before .before .before .before .args .end) (c .before .before .before .before .before .before .before .before .before .args .depth) (c .before .before .before .before .before .before .before .before .before .args .h) _ _
     (c .before .before .before .before .before .before .before .before .size-flaw .ensures) (c .before .before .before .before .before .before .before .if1 .left)

@@ -6,28 +6,19 @@ use Rattle.inner.proofs.Steps.{inner-refused, inner-begun}
 use borrow.Author.Needs.{needs}
 use Rattle.inner.proofs.inner_headed.Statement.{statement}
 use Rattle.inner.proofs.inner_headed.Tie as tie
-use Rattle.inner.proofs.inner_headed.Reads as reads
-use Rattle.inner.proofs.inner_headed.Lts as lts
-use Rattle.inner.proofs.index_start.Reads as index-start-reads
-use Rattle.inner.proofs.inner_flaw.Reads as inner-flaw-reads
 
--- src/lib.rt:96:9
 inner-flaw-requires : tie.Need-inner-flaw-requires
 inner-flaw-requires c κs = search needs
 
--- src/lib.rt:98:9
 returns : tie.Need-returns
 returns c = λ top m f. inner-refused top _ _ m _ _ f (c .before .inner-flaw .ensures) (c .if1 .taken)
 
--- src/lib.rt:105:14
 add-t7 : tie.Need-add-t7
 add-t7 c = omega (arith, inner-fits (c .before .before .before .args .slot .end) (c .before .before .before .args .depth) (c .before .before .before .args .h) (sym (c .before .before .inner-flaw .ensures) ∙ c .before .if1 .left))
 
--- src/lib.rt:103:5
 index-start-requires : tie.Need-index-start-requires
 index-start-requires c κs = search needs
 
--- src/lib.rt:93:1
 returns-2 : tie.Need-returns-2
 returns-2 c = λ top m f. ap (viewInner f) (c .index-start .ensures) ∙ inner-begun top _ _ m _ _ f (c .before .before .before .inner-flaw .ensures) (c .before .before .if1 .left)
 

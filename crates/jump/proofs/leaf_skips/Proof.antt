@@ -1,43 +1,32 @@
-use mathlib.Core.Path.{_≡_, ap, sym, _∙_}
+use mathlib.Core.Path.{ap, sym, _∙_}
 use Rattle.state.specs.Jump.{leafSkips, leafBodySkips}
 use borrow.Author.Needs.{needs}
 use Rattle.jump.proofs.leaf_skips.Statement.{statement}
 use Rattle.jump.proofs.leaf_skips.Tie as tie
-use Rattle.jump.proofs.leaf_skips.Reads as reads
-use Rattle.jump.proofs.leaf_skips.Lts as lts
-use Rattle.jump.proofs.moof_skips.Reads as moof-skips-reads
 
--- src/lib.rt:51:34
 enum-told : tie.Need-enum-told
 enum-told c = search needs
 
--- src/lib.rt:52:28
 enum-known-s : tie.Need-enum-known-s
 enum-known-s c = search needs
 
--- src/lib.rt:53:30
 enum-known-body : tie.Need-enum-known-body
 enum-known-body c = search needs
 
--- src/lib.rt:54:38
 enum-known-body-2 : tie.Need-enum-known-body-2
 enum-known-body-2 c = search needs
 
--- src/lib.rt:54:49
 moof-skips-requires : tie.Need-moof-skips-requires
 moof-skips-requires c κs = search needs
 
--- src/lib.rt:47:1
 returns : tie.Need-returns
 unfolding leafSkips leafBodySkips
 returns c = cc
 
--- src/lib.rt:47:1
 returns-2 : tie.Need-returns-2
 unfolding leafSkips leafBodySkips
 returns-2 c = sym (ap leafSkips (c .before .before .before .before .s .given .1) ∙ ap leafBodySkips (c .before .body .given .1))
 
--- src/lib.rt:47:1
 returns-3 : tie.Need-returns-3
 unfolding leafSkips leafBodySkips
 returns-3 c = c .moof-skips .ensures ∙ sym (ap leafSkips (c .before .before .before .before .before .s .given .1) ∙ ap leafBodySkips (c .before .before .body2 .given .1))

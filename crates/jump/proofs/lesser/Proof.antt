@@ -5,15 +5,11 @@ use mathlib.Core.Path.{sym}
 use Rattle.basics.proofs.Picks.{pick-yes, pick-no}
 use Rattle.jump.proofs.lesser.Statement.{statement}
 use Rattle.jump.proofs.lesser.Tie as tie
-use Rattle.jump.proofs.lesser.Reads as reads
-use Rattle.jump.proofs.lesser.Lts as lts
 
--- src/lib.rt:118:9
 returns : tie.Need-returns
 unfolding least pick
 returns c = sym (pick-yes _ _ _ (lt-ltb _ _ (c .if1 .taken)))
 
--- src/lib.rt:114:1
 returns-2 : tie.Need-returns-2
 unfolding least pick
 returns-2 c = sym (pick-no _ _ _ (le-ltb _ _ (c .if1 .left)))

@@ -2,45 +2,34 @@ use Rattle.state.specs.Jump.{openingSkips, openingBodySkips}
 use borrow.Author.Needs.{needs}
 use Rattle.jump.proofs.opening_skips.Statement.{statement}
 use Rattle.jump.proofs.opening_skips.Tie as tie
-use Rattle.jump.proofs.opening_skips.Reads as reads
-use Rattle.jump.proofs.opening_skips.Lts as lts
 
--- src/lib.rt:63:37
 enum-told : tie.Need-enum-told
 enum-told c = search needs
 
--- src/lib.rt:64:31
 enum-known-s : tie.Need-enum-known-s
 enum-known-s c = search needs
 
--- src/lib.rt:65:33
 enum-known-body : tie.Need-enum-known-body
 enum-known-body c = search needs
 
--- src/lib.rt:72:18
 enum-told-2 : tie.Need-enum-told-2
 enum-told-2 c = search needs
 
--- src/lib.rt:73:41
 enum-told-3 : tie.Need-enum-told-3
 enum-told-3 c = search needs
 
--- src/lib.rt:59:1
 returns : tie.Need-returns
 unfolding openingSkips openingBodySkips
 returns c = cc
 
--- src/lib.rt:59:1
 returns-2 : tie.Need-returns-2
 unfolding openingSkips openingBodySkips
 returns-2 c = cc
 
--- src/lib.rt:59:1
 returns-3 : tie.Need-returns-3
 unfolding openingSkips openingBodySkips
 returns-3 c = cc
 
--- src/lib.rt:59:1
 returns-4 : tie.Need-returns-4
 unfolding openingSkips openingBodySkips
 returns-4 c = cc

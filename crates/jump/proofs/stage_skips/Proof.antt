@@ -1,67 +1,49 @@
-use mathlib.Core.Path.{_≡_, ap, sym, _∙_}
+use mathlib.Core.Path.{ap, sym, _∙_}
 use Rattle.state.specs.Jump.{skips}
 use borrow.Author.Needs.{needs}
 use Rattle.jump.proofs.stage_skips.Statement.{statement}
 use Rattle.jump.proofs.stage_skips.Tie as tie
-use Rattle.jump.proofs.stage_skips.Reads as reads
-use Rattle.jump.proofs.stage_skips.Lts as lts
-use Rattle.jump.proofs.gap_skips.Reads as gap-skips-reads
-use Rattle.jump.proofs.leaf_skips.Reads as leaf-skips-reads
-use Rattle.jump.proofs.opening_skips.Reads as opening-skips-reads
 
--- src/lib.rt:91:36
 enum-known-s : tie.Need-enum-known-s
 enum-known-s c = search needs
 
--- src/lib.rt:91:47
 opening-skips-requires : tie.Need-opening-skips-requires
 opening-skips-requires c κs = search needs
 
--- src/lib.rt:96:13
 enum-known-s-2 : tie.Need-enum-known-s-2
 enum-known-s-2 c = search needs
 
--- src/lib.rt:97:14
 gap-skips-requires : tie.Need-gap-skips-requires
 gap-skips-requires c κs = search needs
 
--- src/lib.rt:98:47
 enum-told : tie.Need-enum-told
 enum-told c = search needs
 
--- src/lib.rt:103:13
 enum-known-s-3 : tie.Need-enum-known-s-3
 enum-known-s-3 c = search needs
 
--- src/lib.rt:104:14
 leaf-skips-requires : tie.Need-leaf-skips-requires
 leaf-skips-requires c κs = search needs
 
--- src/lib.rt:110:14
 enum-told-2 : tie.Need-enum-told-2
 enum-told-2 c = search needs
 
--- src/lib.rt:87:1
 returns : tie.Need-returns
 unfolding skips
 returns c = c .opening-skips .ensures ∙ sym (ap skips (c .before .before .s .given .1))
 
--- src/lib.rt:87:1
 returns-2 : tie.Need-returns-2
 unfolding skips
 returns-2 c = c .gap-skips .ensures ∙ sym (ap skips (c .before .before .s2 .given .1))
 
--- src/lib.rt:87:1
 returns-3 : tie.Need-returns-3
 unfolding skips
 returns-3 c = cc
 
--- src/lib.rt:87:1
 returns-4 : tie.Need-returns-4
 unfolding skips
 returns-4 c = c .leaf-skips .ensures ∙ sym (ap skips (c .before .before .s3 .given .1))
 
--- src/lib.rt:87:1
 returns-5 : tie.Need-returns-5
 unfolding skips
 returns-5 c = cc

@@ -11,38 +11,30 @@ use borrow.Author.Needs.{needs}
 use Rattle.leaf.proofs.after_leaf_body.Statement.{statement}
 use Rattle.leaf.proofs.after_leaf_body.Tie as tie
 
--- src/lib.rt:312:26
 enum-known-r : tie.Need-enum-known-r
 enum-known-r c = search needs
 
--- src/lib.rt:313:28
 enum-known-r-2 : tie.Need-enum-known-r-2
 enum-known-r-2 c = search needs
 
--- src/lib.rt:313:48
 leaf-after-requires : tie.Need-leaf-after-requires
 leaf-after-requires c κs = search needs
 
--- src/lib.rt:313:34
 leaf-on-requires : tie.Need-leaf-on-requires
 leaf-on-requires c κs = search needs
 
--- src/lib.rt:314:27
 enum-known-r-3 : tie.Need-enum-known-r-3
 enum-known-r-3 c = search needs
 
--- src/lib.rt:314:47
 worse-in-leaf-requires : tie.Need-worse-in-leaf-requires
 worse-in-leaf-requires c κs = search needs
 
--- src/lib.rt:308:1
 returns : tie.Need-returns
 unfolding lift
 returns c =
     let a = c .before .before .before .args in
     λ id f e. sym (ap (λ (q : LeafBodyStep). afterBody (leafBoxes id (a .slot)) wrapLeaf (a .so) (a .n) (viewLeafBody f q)) (c .before .r .given .1))
 
--- src/lib.rt:308:1
 returns-2 : tie.Need-returns-2
 unfolding lift
 returns-2 c =
@@ -51,7 +43,6 @@ returns-2 c =
     ∙ ap (λ (s : LeafSo). goOn (leafBoxes id (a .slot)) wrapLeaf (leafNext (a .slot) s f (a .n)) f) (c .before .leaf-after .ensures)
     ∙ sym (ap (λ (q : LeafBodyStep). afterBody (leafBoxes id (a .slot)) wrapLeaf (a .so) (a .n) (viewLeafBody f q)) (c .before .before .before .r2 .given .1))
 
--- src/lib.rt:308:1
 returns-3 : tie.Need-returns-3
 unfolding lift
 returns-3 c =

@@ -10,34 +10,27 @@ use borrow.Author.Needs.{needs}
 use Rattle.leaf.proofs.after_moof_body.Statement.{statement}
 use Rattle.leaf.proofs.after_moof_body.Tie as tie
 
--- src/lib.rt:153:26
 enum-known-r : tie.Need-enum-known-r
 enum-known-r c = search needs
 
--- src/lib.rt:154:28
 enum-known-r-2 : tie.Need-enum-known-r-2
 enum-known-r-2 c = search needs
 
--- src/lib.rt:154:47
 seen-after-requires : tie.Need-seen-after-requires
 seen-after-requires c κs = search needs
 
--- src/lib.rt:154:34
 moof-on-requires : tie.Need-moof-on-requires
 moof-on-requires c κs = search needs
 
--- src/lib.rt:155:27
 enum-known-r-3 : tie.Need-enum-known-r-3
 enum-known-r-3 c = search needs
 
--- src/lib.rt:149:1
 returns : tie.Need-returns
 unfolding lift
 returns c =
     let a = c .before .before .before .args in
     λ id f. sym (ap (λ (q : MoofBodyStep). afterBody (moofBoxes id (a .end)) wrapMoof (a .seen) (a .n) (viewMoofBody f q)) (c .before .r .given .1))
 
--- src/lib.rt:149:1
 returns-2 : tie.Need-returns-2
 unfolding lift
 returns-2 c =
@@ -46,7 +39,6 @@ returns-2 c =
     ∙ ap (λ (s : Seen). goOn (moofBoxes id (a .end)) wrapMoof (moofNext (a .end) s (a .n)) f) (c .before .seen-after .ensures)
     ∙ sym (ap (λ (q : MoofBodyStep). afterBody (moofBoxes id (a .end)) wrapMoof (a .seen) (a .n) (viewMoofBody f q)) (c .before .before .before .r2 .given .1))
 
--- src/lib.rt:149:1
 returns-3 : tie.Need-returns-3
 unfolding lift lowest
 returns-3 c =

@@ -11,11 +11,9 @@ use borrow.Author.Needs.{needs}
 use Rattle.leaf.proofs.after_moof_header.Statement.{statement}
 use Rattle.leaf.proofs.after_moof_header.Tie as tie
 
--- src/lib.rt:163:9
 size-flaw-requires : tie.Need-size-flaw-requires
 size-flaw-requires c κs = search needs
 
--- src/lib.rt:165:9
 returns : tie.Need-returns
 unfolding lift lowest
 returns c =
@@ -23,15 +21,12 @@ returns c =
     λ id f. ap (λ (m : ℕ). bad (refusal m (a .h .pos)) (left f)) (c .before .size-flaw .ensures ∙ sym (moof-flaw (a .end) (a .h)))
     ∙ sym (header-bad (moofBoxes id (a .end)) wrapMoof (a .seen) (a .n) (a .h) f (a .h .pos) (moof-placed (a .end) (a .h)) (λ e. c .if1 .taken (c .before .size-flaw .ensures ∙ sym (moof-flaw (a .end) (a .h)) ∙ e)))
 
--- src/lib.rt:170:32
 begin-moof-requires : tie.Need-begin-moof-requires
 begin-moof-requires c κs = omega (arith, size-within (c .before .before .args .end) (c .before .before .args .h) (sym (c .before .size-flaw .ensures) ∙ c .if1 .left))
 
--- src/lib.rt:170:5
 after-moof-body-requires : tie.Need-after-moof-body-requires
 after-moof-body-requires c κs = search needs
 
--- src/lib.rt:160:1
 returns-2 : tie.Need-returns-2
 returns-2 c =
     let a = c .before .before .before .before .args in

@@ -8,19 +8,15 @@ use borrow.Author.Needs.{needs}
 use Rattle.leaf.proofs.begin_leaf.Statement.{statement}
 use Rattle.leaf.proofs.begin_leaf.Tie as tie
 
--- src/lib.rt:227:15
 add-end : tie.Need-add-end
 add-end c = search needs
 
--- src/lib.rt:229:31
 moof-on-requires : tie.Need-moof-on-requires
 moof-on-requires c κs = search needs
 
--- src/lib.rt:229:9
 lift-moof-requires : tie.Need-lift-moof-requires
 lift-moof-requires c κs = search needs
 
--- src/lib.rt:229:9
 returns : tie.Need-returns
 unfolding beginLeaf
 returns c =
@@ -28,11 +24,9 @@ returns c =
     ∙ ap (liftMoof (c .before .before .before .before .before .args .h .pos + c .before .before .before .before .before .args .h .size)) (c .before .moof-on .ensures id f)
     ∙ sym (pick-yes _ _ _ (eq-eqb _ _ (c .before .before .if1 .taken)))
 
--- src/lib.rt:231:5
 skip-leaf-requires : tie.Need-skip-leaf-requires
 skip-leaf-requires c κs = search needs
 
--- src/lib.rt:223:1
 returns-2 : tie.Need-returns-2
 unfolding beginLeaf
 returns-2 c = λ id f. c .skip-leaf .ensures f ∙ sym (pick-no _ _ _ (ne-eqb _ _ (c .before .if1 .left)))

@@ -8,19 +8,15 @@ use borrow.Author.Needs.{needs}
 use Rattle.leaf.proofs.begin_moof.Statement.{statement}
 use Rattle.leaf.proofs.begin_moof.Tie as tie
 
--- src/lib.rt:109:15
 add-end : tie.Need-add-end
 add-end c = search needs
 
--- src/lib.rt:112:32
 traf-begin-requires : tie.Need-traf-begin-requires
 traf-begin-requires c κs = search needs
 
--- src/lib.rt:112:9
 lift-traf-requires : tie.Need-lift-traf-requires
 lift-traf-requires c κs = search needs
 
--- src/lib.rt:112:9
 returns : tie.Need-returns
 unfolding beginMoof
 returns c =
@@ -28,11 +24,9 @@ returns c =
     ∙ ap (liftTraf (spanOf (c .before .before .before .before .before .args .h))) (c .before .traf-begin .ensures id f)
     ∙ sym (pick-yes _ _ _ (eq-eqb _ _ (c .before .before .if1 .taken)))
 
--- src/lib.rt:114:5
 skip-moof-requires : tie.Need-skip-moof-requires
 skip-moof-requires c κs = search needs
 
--- src/lib.rt:104:1
 returns-2 : tie.Need-returns-2
 unfolding beginMoof
 returns-2 c = λ id f. c .skip-moof .ensures f ∙ sym (pick-no _ _ _ (ne-eqb _ _ (c .before .if1 .left)))

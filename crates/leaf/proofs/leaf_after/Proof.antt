@@ -6,20 +6,16 @@ use borrow.Author.Needs.{needs}
 use Rattle.leaf.proofs.leaf_after.Statement.{statement}
 use Rattle.leaf.proofs.leaf_after.Tie as tie
 
--- src/lib.rt:302:26
 enum-told : tie.Need-enum-told
 enum-told c = search needs
 
--- src/lib.rt:303:22
 enum-known-p : tie.Need-enum-known-p
 enum-known-p c = search needs
 
--- src/lib.rt:298:1
 returns : tie.Need-returns
 unfolding leafNow
 returns c = sym (ap (λ (q : Pass). leafNow (c .before .before .args .so) (passedOf q)) (c .enum-told .given .1))
 
--- src/lib.rt:298:1
 returns-2 : tie.Need-returns-2
 unfolding leafNow
 returns-2 c = sym (ap (λ (q : Pass). leafNow (c .before .before .before .args .so) (passedOf q)) (c .before .p .given .1))

@@ -7,32 +7,25 @@ use borrow.Author.Needs.{needs}
 use Rattle.leaf.proofs.leaf_body_byte.Statement.{statement}
 use Rattle.leaf.proofs.leaf_body_byte.Tie as tie
 
--- src/lib.rt:240:26
 enum-known-s : tie.Need-enum-known-s
 enum-known-s c = search needs
 
--- src/lib.rt:240:52
 add-skip-leaf : tie.Need-add-skip-leaf
 add-skip-leaf c = search needs
 
--- src/lib.rt:240:36
 skip-leaf-requires : tie.Need-skip-leaf-requires
 skip-leaf-requires c κs = search needs
 
--- src/lib.rt:241:26
 enum-known-s-2 : tie.Need-enum-known-s-2
 enum-known-s-2 c = search needs
 
--- src/lib.rt:241:57
 moof-byte-requires : tie.Need-moof-byte-requires
 unfolding leafBodyBounds
 moof-byte-requires c κs = (subst (λ (q : LeafBody). Within (leafBodyBounds q)) (c .before .s2 .given .1) (c .before .before .before .pre .0), c .before .before .before .pre .1)
 
--- src/lib.rt:241:42
 lift-moof-requires : tie.Need-lift-moof-requires
 lift-moof-requires c κs = search needs
 
--- src/lib.rt:235:1
 returns : tie.Need-returns
 unfolding stepLeafBody
 returns c =
@@ -41,7 +34,6 @@ returns c =
     ∙ ap (skipLeaf (c .before .before .s .given .0 .0) f) (add-one (a .n))
     ∙ sym (ap (λ (q : LeafBody). stepLeafBody (a .id) q f (a .n) (a .b)) (c .before .before .s .given .1))
 
--- src/lib.rt:235:1
 returns-2 : tie.Need-returns-2
 unfolding stepLeafBody
 returns-2 c =

@@ -12,41 +12,32 @@ use borrow.Author.Needs.{needs}
 use Rattle.leaf.proofs.leaf_byte.Statement.{statement}
 use Rattle.leaf.proofs.leaf_byte.Tie as tie
 
--- src/lib.rt:417:25
 enum-known-s : tie.Need-enum-known-s
 enum-known-s c = search needs
 
--- src/lib.rt:418:17
 head-byte-requires : tie.Need-head-byte-requires
 unfolding leafBounds
 head-byte-requires c κs = (subst (λ (q : LeafBoxes). Within (leafBounds q)) (c .before .s .given .1) (c .before .before .before .pre .0), c .before .before .before .pre .1)
 
--- src/lib.rt:419:48
 add-after-leaf-head : tie.Need-add-after-leaf-head
 add-after-leaf-head c = search needs
 
--- src/lib.rt:419:13
 after-leaf-head-requires : tie.Need-after-leaf-head-requires
 after-leaf-head-requires c κs = search needs
 
--- src/lib.rt:421:25
 enum-known-s-2 : tie.Need-enum-known-s-2
 enum-known-s-2 c = search needs
 
--- src/lib.rt:422:17
 leaf-body-byte-requires : tie.Need-leaf-body-byte-requires
 unfolding leafBounds
 leaf-body-byte-requires c κs = (subst (λ (q : LeafBoxes). Within (leafBounds q)) (c .before .s2 .given .1) (c .before .before .before .pre .0), c .before .before .before .pre .1)
 
--- src/lib.rt:423:48
 add-after-leaf-body : tie.Need-add-after-leaf-body
 add-after-leaf-body c = search needs
 
--- src/lib.rt:423:13
 after-leaf-body-requires : tie.Need-after-leaf-body-requires
 after-leaf-body-requires c κs = search needs
 
--- src/lib.rt:412:1
 returns : tie.Need-returns
 unfolding stepLeaf stepBox
 returns c =
@@ -56,7 +47,6 @@ returns c =
     ∙ ap (λ (m : ℕ). afterHead (leafBoxes (a .id) (a .slot)) wrapLeaf (c .before .before .before .s .given .0 .0) m (stepHead left (a .slot .end) (c .before .before .before .s .given .0 .1 .0) f (a .n) (a .b))) (add-one (a .n))
     ∙ sym (ap (λ (q : LeafBoxes). stepLeaf (a .id) (a .slot) q f (a .n) (a .b)) (c .before .before .before .s .given .1))
 
--- src/lib.rt:412:1
 returns-2 : tie.Need-returns-2
 unfolding stepLeaf stepBox
 returns-2 c =

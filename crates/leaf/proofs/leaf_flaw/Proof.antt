@@ -8,11 +8,9 @@ use borrow.Author.Needs.{needs}
 use Rattle.leaf.proofs.leaf_flaw.Statement.{statement}
 use Rattle.leaf.proofs.leaf_flaw.Tie as tie
 
--- src/lib.rt:354:8
 wrong-length-requires : tie.Need-wrong-length-requires
 wrong-length-requires c κs = search needs
 
--- src/lib.rt:355:9
 returns : tie.Need-returns
 returns c =
     let a = c .before .before .args in
@@ -20,7 +18,6 @@ returns c =
     (leaf-flaws (a .pos) (a .had) (a .h) f (a .full) e
     ∙ pick-yes _ _ _ (sym (c .before .wrong-length .ensures) ∙ c .if1 .taken))
 
--- src/lib.rt:358:9
 returns-2 : tie.Need-returns-2
 returns-2 c =
     let a = c .before .before .before .before .args in
@@ -29,11 +26,9 @@ returns-2 c =
     ∙ pick-no _ _ _ (sym (c .before .before .before .wrong-length .ensures) ∙ c .before .before .if1 .left)
     ∙ pick-yes _ _ _ (eq-eqb _ _ (c .if2 .taken)))
 
--- src/lib.rt:360:8
 misplaced-requires : tie.Need-misplaced-requires
 misplaced-requires c κs = search needs
 
--- src/lib.rt:361:9
 returns-3 : tie.Need-returns-3
 returns-3 c =
     let a = c .before .before .before .before .before .before .args in
@@ -43,7 +38,6 @@ returns-3 c =
     ∙ pick-no _ _ _ (ne-eqb _ _ (c .before .before .if2 .left))
     ∙ pick-yes _ _ _ (sym (c .before .misplaced .ensures) ∙ c .if3 .taken))
 
--- src/lib.rt:364:9
 returns-4 : tie.Need-returns-4
 returns-4 c =
     let a = c .before .before .before .before .before .before .before .before .args in
@@ -54,7 +48,6 @@ returns-4 c =
     ∙ pick-no _ _ _ (sym (c .before .before .before .misplaced .ensures) ∙ c .before .before .if3 .left)
     ∙ pick-no _ _ _ (ap (λ (t : Bool). t && a .full) (ne-eqb _ _ (c .if4 .taken))))
 
--- src/lib.rt:367:9
 returns-5 : tie.Need-returns-5
 returns-5 c =
     let a = c .before .before .before .before .before .before .before .before .before .args in
@@ -65,7 +58,6 @@ returns-5 c =
     ∙ pick-no _ _ _ (sym (c .before .before .before .before .misplaced .ensures) ∙ c .before .before .before .if3 .left)
     ∙ pick-yes _ _ _ (ap (λ (t : Bool). t && a .full) (eq-eqb _ _ (c .before .if4 .left)) ∙ c .if5 .taken))
 
--- src/lib.rt:350:1
 returns-6 : tie.Need-returns-6
 returns-6 c =
     let a = c .before .before .before .before .before .before .before .before .before .args in

@@ -4,17 +4,14 @@ use Rattle.leaf.specs.Leaf.{lackOf}
 use Rattle.leaf.proofs.leaf_lack.Statement.{statement}
 use Rattle.leaf.proofs.leaf_lack.Tie as tie
 
--- src/lib.rt:250:9
 returns : tie.Need-returns
 unfolding lackOf pick
 returns c = simp (c .if1 .taken)
 
--- src/lib.rt:253:9
 returns-2 : tie.Need-returns-2
 unfolding lackOf pick
 returns-2 c = simp (c .before .if1 .left, c .if2 .taken)
 
--- src/lib.rt:246:1
 returns-3 : tie.Need-returns-3
 unfolding lackOf pick
 returns-3 c = simp (c .before .if1 .left, c .if2 .left)

@@ -13,23 +13,19 @@ use borrow.Author.Needs.{needs}
 use Rattle.leaf.proofs.leaf_on.Statement.{statement}
 use Rattle.leaf.proofs.leaf_on.Tie as tie
 
--- src/lib.rt:284:9
 returns : tie.Need-returns
 unfolding goOn leafNext unless pick
 returns c = λ id f e. simp (ne-eqb _ _ (c .if1 .taken))
 
--- src/lib.rt:287:9
 leaf-lack-requires : tie.Need-leaf-lack-requires
 leaf-lack-requires c κs = search needs
 
--- src/lib.rt:289:9
 returns-2 : tie.Need-returns-2
 returns-2 c =
     let a = c .before .before .before .before .before .args in
     λ id f e. ap (λ (m : ℕ). bad (refusal m (a .slot .pos)) (left f)) (c .before .leaf-lack .ensures)
     ∙ sym (lacks-over (a .slot) (a .so) f (a .full) e (a .n) (c .before .before .before .if1 .left) id ∙ pick-no _ _ _ (ne-eqb _ _ (λ k. c .if2 .taken (c .before .leaf-lack .ensures ∙ k))))
 
--- src/lib.rt:280:1
 returns-3 : tie.Need-returns-3
 returns-3 c =
     let a = c .before .before .before .before .before .args in

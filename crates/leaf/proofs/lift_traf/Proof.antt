@@ -7,29 +7,23 @@ use borrow.Author.Needs.{needs}
 use Rattle.leaf.proofs.lift_traf.Statement.{statement}
 use Rattle.leaf.proofs.lift_traf.Tie as tie
 
--- src/lib.rt:97:23
 enum-known-r : tie.Need-enum-known-r
 enum-known-r c = search needs
 
--- src/lib.rt:98:25
 enum-known-r-2 : tie.Need-enum-known-r-2
 enum-known-r-2 c = search needs
 
--- src/lib.rt:99:24
 enum-known-r-3 : tie.Need-enum-known-r-3
 enum-known-r-3 c = search needs
 
--- src/lib.rt:93:1
 returns : tie.Need-returns
 unfolding lift
 returns c = λ f. sym (ap (λ (q : TrackStep). liftTraf (c .before .before .before .args .span) (viewTrack f q)) (c .before .r .given .1))
 
--- src/lib.rt:93:1
 returns-2 : tie.Need-returns-2
 unfolding lift
 returns-2 c = λ f. sym (ap (λ (q : TrackStep). liftTraf (c .before .before .before .args .span) (viewTrack f q)) (c .before .r2 .given .1))
 
--- src/lib.rt:93:1
 returns-3 : tie.Need-returns-3
 unfolding lift
 returns-3 c = λ f. sym (ap (λ (q : TrackStep). liftTraf (c .before .before .before .args .span) (viewTrack f q)) (c .before .r3 .given .1))

@@ -7,32 +7,25 @@ use borrow.Author.Needs.{needs}
 use Rattle.leaf.proofs.moof_body_byte.Statement.{statement}
 use Rattle.leaf.proofs.moof_body_byte.Tie as tie
 
--- src/lib.rt:123:26
 enum-known-s : tie.Need-enum-known-s
 enum-known-s c = search needs
 
--- src/lib.rt:123:52
 add-skip-moof : tie.Need-add-skip-moof
 add-skip-moof c = search needs
 
--- src/lib.rt:123:36
 skip-moof-requires : tie.Need-skip-moof-requires
 skip-moof-requires c κs = search needs
 
--- src/lib.rt:124:24
 enum-known-s-2 : tie.Need-enum-known-s-2
 enum-known-s-2 c = search needs
 
--- src/lib.rt:124:56
 traf-byte-requires : tie.Need-traf-byte-requires
 unfolding moofBodyBounds
 traf-byte-requires c κs = (subst (λ (q : MoofBody). Within (moofBodyBounds q)) (c .before .s2 .given .1) (c .before .before .before .pre .0), c .before .before .before .pre .1)
 
--- src/lib.rt:124:40
 lift-traf-requires : tie.Need-lift-traf-requires
 lift-traf-requires c κs = search needs
 
--- src/lib.rt:118:1
 returns : tie.Need-returns
 unfolding stepMoofBody
 returns c =
@@ -41,7 +34,6 @@ returns c =
     ∙ ap (skipMoof (c .before .before .s .given .0 .0) f) (add-one (a .n))
     ∙ sym (ap (λ (q : MoofBody). stepMoofBody (a .id) q f (a .n) (a .b)) (c .before .before .s .given .1))
 
--- src/lib.rt:118:1
 returns-2 : tie.Need-returns-2
 unfolding stepMoofBody
 returns-2 c =

@@ -12,41 +12,32 @@ use borrow.Author.Needs.{needs}
 use Rattle.leaf.proofs.moof_byte.Statement.{statement}
 use Rattle.leaf.proofs.moof_byte.Tie as tie
 
--- src/lib.rt:190:25
 enum-known-s : tie.Need-enum-known-s
 enum-known-s c = search needs
 
--- src/lib.rt:191:17
 head-byte-requires : tie.Need-head-byte-requires
 unfolding moofBounds
 head-byte-requires c κs = (subst (λ (q : MoofBoxes). Within (moofBounds q)) (c .before .s .given .1) (c .before .before .before .pre .0), c .before .before .before .pre .1)
 
--- src/lib.rt:192:43
 add-after-moof-head : tie.Need-add-after-moof-head
 add-after-moof-head c = search needs
 
--- src/lib.rt:192:13
 after-moof-head-requires : tie.Need-after-moof-head-requires
 after-moof-head-requires c κs = search needs
 
--- src/lib.rt:194:25
 enum-known-s-2 : tie.Need-enum-known-s-2
 enum-known-s-2 c = search needs
 
--- src/lib.rt:195:17
 moof-body-byte-requires : tie.Need-moof-body-byte-requires
 unfolding moofBounds
 moof-body-byte-requires c κs = (subst (λ (q : MoofBoxes). Within (moofBounds q)) (c .before .s2 .given .1) (c .before .before .before .pre .0), c .before .before .before .pre .1)
 
--- src/lib.rt:196:43
 add-after-moof-body : tie.Need-add-after-moof-body
 add-after-moof-body c = search needs
 
--- src/lib.rt:196:13
 after-moof-body-requires : tie.Need-after-moof-body-requires
 after-moof-body-requires c κs = search needs
 
--- src/lib.rt:185:1
 returns : tie.Need-returns
 unfolding stepMoof stepBox
 returns c =
@@ -56,7 +47,6 @@ returns c =
     ∙ ap (λ (m : ℕ). afterHead (moofBoxes (a .id) (a .end)) wrapMoof (c .before .before .before .s .given .0 .0) m (stepHead left (a .end) (c .before .before .before .s .given .0 .1 .0) f (a .n) (a .b))) (add-one (a .n))
     ∙ sym (ap (λ (q : MoofBoxes). stepMoof (a .id) (a .end) q f (a .n) (a .b)) (c .before .before .before .s .given .1))
 
--- src/lib.rt:185:1
 returns-2 : tie.Need-returns-2
 unfolding stepMoof stepBox
 returns-2 c =

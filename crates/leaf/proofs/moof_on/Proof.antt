@@ -7,12 +7,10 @@ use Rattle.state.specs.Leaf.{moofNext}
 use Rattle.leaf.proofs.moof_on.Statement.{statement}
 use Rattle.leaf.proofs.moof_on.Tie as tie
 
--- src/lib.rt:133:9
 returns : tie.Need-returns
 unfolding goOn moofNext unless pick
 returns c = λ id f. simp (eq-eqb _ _ (c .if1 .taken))
 
--- src/lib.rt:129:1
 returns-2 : tie.Need-returns-2
 unfolding goOn moofNext unless pick
 returns-2 c = λ id f. simp (ne-eqb _ _ (c .if1 .left))

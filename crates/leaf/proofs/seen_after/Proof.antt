@@ -6,20 +6,16 @@ use borrow.Author.Needs.{needs}
 use Rattle.leaf.proofs.seen_after.Statement.{statement}
 use Rattle.leaf.proofs.seen_after.Tie as tie
 
--- src/lib.rt:143:26
 enum-told : tie.Need-enum-told
 enum-told c = search needs
 
--- src/lib.rt:144:22
 enum-known-p : tie.Need-enum-known-p
 enum-known-p c = search needs
 
--- src/lib.rt:139:1
 returns : tie.Need-returns
 unfolding seenNow
 returns c = sym (ap (λ (q : Pass). seenNow (c .before .before .args .seen) (passedOf q)) (c .enum-told .given .1))
 
--- src/lib.rt:139:1
 returns-2 : tie.Need-returns-2
 unfolding seenNow
 returns-2 c = sym (ap (λ (q : Pass). seenNow (c .before .before .before .args .seen) (passedOf q)) (c .before .p .given .1))

@@ -12,16 +12,13 @@ use borrow.Author.Needs.{needs}
 use Rattle.leaf.proofs.worse_in_leaf.Statement.{statement}
 use Rattle.leaf.proofs.worse_in_leaf.Tie as tie
 
--- src/lib.rt:263:9
 returns : tie.Need-returns
 unfolding pick lowest
 returns c = λ f e. simp (ne-eqb _ _ (c .if1 .taken))
 
--- src/lib.rt:266:9
 leaf-lack-requires : tie.Need-leaf-lack-requires
 leaf-lack-requires c κs = search needs
 
--- src/lib.rt:268:9
 returns-2 : tie.Need-returns-2
 returns-2 c =
     let a = c .before .before .before .before .before .args in
@@ -29,14 +26,12 @@ returns-2 c =
     (lacks-beside (a .slot) (a .so) f (a .full) e (a .n) (c .before .before .before .if1 .left) (a .x)
     ∙ pick-yes _ _ _ (eq-eqb _ _ (sym (c .before .leaf-lack .ensures) ∙ c .if2 .taken)))
 
--- src/lib.rt:271:9
 returns-3 : tie.Need-returns-3
 returns-3 c =
     let a = c .before .before .before .before .before .before .before .args in
     λ f e. ap (λ (m : ℕ). refusal m (a .slot .pos)) (c .before .before .before .leaf-lack .ensures)
     ∙ sym (lacks-beside (a .slot) (a .so) f (a .full) e (a .n) (c .before .before .before .before .before .if1 .left) (a .x) ∙ pick-no _ _ _ (ne-eqb _ _ (λ k. c .before .before .if2 .left (c .before .before .before .leaf-lack .ensures ∙ k))) ∙ pick-yes _ _ _ (lt-ltb (lackOf (a .full) (a .so .seen .any)) (a .x .number) (omega (arith, c .if3 .taken, c .before .before .before .leaf-lack .ensures))))
 
--- src/lib.rt:259:1
 returns-4 : tie.Need-returns-4
 returns-4 c =
     let a = c .before .before .before .before .before .before .before .args in

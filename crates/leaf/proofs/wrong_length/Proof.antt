@@ -7,23 +7,18 @@ use borrow.Author.Needs.{needs}
 use Rattle.leaf.proofs.wrong_length.Statement.{statement}
 use Rattle.leaf.proofs.wrong_length.Tie as tie
 
--- src/lib.rt:323:16
 sub-body : tie.Need-sub-body
 sub-body c = search needs
 
--- src/lib.rt:326:13
 returns : tie.Need-returns
 returns c = simp (eq-eqb _ _ (c .before .if1 .taken), lt-ltb _ _ (c .if2 .taken))
 
--- src/lib.rt:328:9
 returns-2 : tie.Need-returns-2
 returns-2 c = simp (eq-eqb _ _ (c .before .if1 .taken), ne-eqb (c .before .before .before .before .args .h .kind) sidx (λ e. omega (arith, c .before .if1 .taken)), le-ltb _ _ (c .if2 .left), or-false)
 
--- src/lib.rt:331:9
 returns-3 : tie.Need-returns-3
 returns-3 c = simp (ne-eqb _ _ (c .before .before .if1 .left), eq-eqb _ _ (c .if3 .taken))
 
--- src/lib.rt:319:1
 returns-4 : tie.Need-returns-4
 returns-4 c = simp (ne-eqb _ _ (c .before .before .if1 .left), ne-eqb _ _ (c .if3 .left))
 

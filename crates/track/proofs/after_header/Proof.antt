@@ -5,22 +5,18 @@ use Rattle.machine.specs.Faults.{refusal, lowest}
 use Rattle.machine.specs.Run.{bad}
 use Rattle.machine.specs.declared.Refusal.{Refusal}
 use Rattle.state.specs.Flow.{left}
-use Rattle.state.specs.declared.Track.the-variants as track
 use Rattle.track.specs.Track.{besideTraf, afterBody}
 use Rattle.track.proofs.Laws.{all-right, header-bad, header-good}
 use borrow.Author.Needs.{needs}
 use Rattle.track.proofs.after_header.Statement.{statement}
 use Rattle.track.proofs.after_header.Tie as tie
 
--- src/lib.rt:423:9
 box-flaw-requires : tie.Need-box-flaw-requires
 box-flaw-requires c κs = search needs
 
--- src/lib.rt:429:31
 worse-requires : tie.Need-worse-requires
 worse-requires c κs = search needs
 
--- src/lib.rt:429:9
 returns : tie.Need-returns
 returns c =
     let a = c .before .before .before .args in
@@ -28,17 +24,14 @@ returns c =
     ∙ ap (λ (m : ℕ). bad (lowest (refusal m (a .h .pos)) (besideTraf (a .span) (a .so .track) (a .n))) (left f)) (c .before .before .box-flaw .ensures)
     ∙ sym (header-bad id (a .span) (a .so) (a .n) (a .h) f (λ e. c .before .if1 .taken (c .before .before .box-flaw .ensures ∙ e)))
 
--- src/lib.rt:431:26
 body-begin-requires : tie.Need-body-begin-requires
 body-begin-requires c κs =
     let a = c .before .before .args in
     omega (arith, all-right (a .so .track) (a .h) (a .span .end) (sym (c .before .box-flaw .ensures) ∙ c .if1 .left))
 
--- src/lib.rt:431:5
 after-body-requires : tie.Need-after-body-requires
 after-body-requires c κs = search needs
 
--- src/lib.rt:418:1
 returns-2 : tie.Need-returns-2
 returns-2 c =
     let a = c .before .before .before .before .args in

@@ -8,25 +8,20 @@ use borrow.Author.Needs.{needs}
 use Rattle.track.proofs.body_begin.Statement.{statement}
 use Rattle.track.proofs.body_begin.Tie as tie
 
--- src/lib.rt:206:15
 add-end : tie.Need-add-end
 add-end c = search needs
 
--- src/lib.rt:209:9
 returns : tie.Need-returns
 unfolding beginTraf pick
 returns c = λ f. simp (eq-eqb _ _ (c .if1 .taken))
 
--- src/lib.rt:217:9
 returns-2 : tie.Need-returns-2
 unfolding beginTraf pick
 returns-2 c = λ f. simp (ne-eqb _ _ (c .before .before .if1 .left), eq-eqb _ _ (c .if2 .taken))
 
--- src/lib.rt:223:5
 skip-to-requires : tie.Need-skip-to-requires
 skip-to-requires c κs = search needs
 
--- src/lib.rt:201:1
 returns-3 : tie.Need-returns-3
 unfolding beginTraf
 returns-3 c =

@@ -8,39 +8,30 @@ use borrow.Author.Needs.{needs}
 use Rattle.track.proofs.body_byte.Statement.{statement}
 use Rattle.track.proofs.body_byte.Tie as tie
 
--- src/lib.rt:194:26
 enum-known-s : tie.Need-enum-known-s
 enum-known-s c = search needs
 
--- src/lib.rt:194:50
 add-skip-to : tie.Need-add-skip-to
 add-skip-to c = search needs
 
--- src/lib.rt:194:36
 skip-to-requires : tie.Need-skip-to-requires
 skip-to-requires c κs = search needs
 
--- src/lib.rt:195:26
 enum-known-s-2 : tie.Need-enum-known-s-2
 enum-known-s-2 c = search needs
 
--- src/lib.rt:195:72
 add-rest-to : tie.Need-add-rest-to
 add-rest-to c = search needs
 
--- src/lib.rt:195:47
 rest-to-requires : tie.Need-rest-to-requires
 rest-to-requires c κs = search needs
 
--- src/lib.rt:196:27
 enum-known-s-3 : tie.Need-enum-known-s-3
 enum-known-s-3 c = search needs
 
--- src/lib.rt:196:48
 field-byte-requires : tie.Need-field-byte-requires
 field-byte-requires c κs = (c .before .before .before .pre .0, subst (λ (q : TrafBody). Within (trafBodyBounds q)) (c .before .s3 .given .1) (c .before .before .before .pre .1))
 
--- src/lib.rt:188:1
 returns : tie.Need-returns
 unfolding stepTrafBody
 returns c =
@@ -49,7 +40,6 @@ returns c =
     ∙ ap (skipTraf nothing body.Skip (c .before .before .s .given .0 .0) f) (add-one (a .n))
     ∙ sym (ap (λ (q : TrafBody). stepTrafBody (a .id) (a .t) q f (a .n) (a .b)) (c .before .before .s .given .1))
 
--- src/lib.rt:188:1
 returns-2 : tie.Need-returns-2
 unfolding stepTrafBody
 returns-2 c =
@@ -58,7 +48,6 @@ returns-2 c =
     ∙ ap (restFrom (c .before .before .s2 .given .0 .0) (c .before .before .s2 .given .0 .1 .0) f) (add-one (a .n))
     ∙ sym (ap (λ (q : TrafBody). stepTrafBody (a .id) (a .t) q f (a .n) (a .b)) (c .before .before .s2 .given .1))
 
--- src/lib.rt:188:1
 returns-3 : tie.Need-returns-3
 returns-3 c =
     let a = c .before .before .before .before .args in

@@ -7,31 +7,24 @@ use borrow.Author.Needs.{needs}
 use Rattle.track.proofs.box_end.Statement.{statement}
 use Rattle.track.proofs.box_end.Tie as tie
 
--- src/lib.rt:382:27
 enum-told : tie.Need-enum-told
 enum-told c = search needs
 
--- src/lib.rt:382:27
 go-on-requires : tie.Need-go-on-requires
 go-on-requires c κs = search needs
 
--- src/lib.rt:383:23
 enum-known-g : tie.Need-enum-known-g
 enum-known-g c = search needs
 
--- src/lib.rt:386:13
 go-on-requires-2 : tie.Need-go-on-requires-2
 go-on-requires-2 c κs = search needs
 
--- src/lib.rt:388:22
 enum-known-g-2 : tie.Need-enum-known-g-2
 enum-known-g-2 c = search needs
 
--- src/lib.rt:388:44
 time-end-requires : tie.Need-time-end-requires
 time-end-requires c κs = search needs
 
--- src/lib.rt:378:1
 returns : tie.Need-returns
 unfolding trafNow fallFaults
 returns c =
@@ -39,7 +32,6 @@ returns c =
     λ id f. c .go-on .ensures id f
     ∙ sym (ap (λ (g : Given). goOn (trafBoxes id (a .span)) wrapTraf (trafNext (a .span) (trafNow (a .so) (gaveOf g)) (fallFaults (a .so .seen .last) (gaveOf g)) (a .n)) f) (c .before .enum-told .given .1))
 
--- src/lib.rt:378:1
 returns-2 : tie.Need-returns-2
 unfolding trafNow fallFaults
 returns-2 c =
@@ -47,7 +39,6 @@ returns-2 c =
     λ id f. c .go-on2 .ensures id f
     ∙ sym (ap (λ (g : Given). goOn (trafBoxes id (a .span)) wrapTraf (trafNext (a .span) (trafNow (a .so) (gaveOf g)) (fallFaults (a .so .seen .last) (gaveOf g)) (a .n)) f) (c .before .before .before .g .given .1))
 
--- src/lib.rt:378:1
 returns-3 : tie.Need-returns-3
 returns-3 c =
     let a = c .before .before .before .before .args in

@@ -7,22 +7,18 @@ use borrow.Author.Needs.{needs}
 use Rattle.track.proofs.box_flaw.Statement.{statement}
 use Rattle.track.proofs.box_flaw.Tie as tie
 
--- src/lib.rt:410:9
 size-flaw-requires : tie.Need-size-flaw-requires
 size-flaw-requires c κs = search needs
 
--- src/lib.rt:412:9
 returns : tie.Need-returns
 returns c =
     let a = c .before .before .args in
     c .before .size-flaw .ensures
     ∙ sym (sizes-first (a .t) (a .h) (a .end) ∙ pick-no _ _ _ (ne-eqb _ _ (λ e. c .if1 .taken (c .before .size-flaw .ensures ∙ e))))
 
--- src/lib.rt:414:5
 traf-flaw-requires : tie.Need-traf-flaw-requires
 traf-flaw-requires c κs = sizes-right (c .before .before .args .end) (c .before .before .args .h) (sym (c .before .size-flaw .ensures) ∙ c .if1 .left)
 
--- src/lib.rt:407:1
 returns-2 : tie.Need-returns-2
 returns-2 c =
     let a = c .before .before .before .args in

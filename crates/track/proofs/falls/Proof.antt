@@ -2,11 +2,9 @@ use Rattle.state.specs.Flow.{left}
 use Rattle.track.proofs.falls.Statement.{statement}
 use Rattle.track.proofs.falls.Tie as tie
 
--- src/lib.rt:350:9
 returns : tie.Need-returns
 returns c = simp (c .before .if1 .taken)
 
--- src/lib.rt:346:1
 returns-2 : tie.Need-returns-2
 returns-2 c = simp (c .if1 .left)
 

@@ -9,21 +9,17 @@ use borrow.Author.Needs.{needs}
 use Rattle.track.proofs.field_byte.Statement.{statement}
 use Rattle.track.proofs.field_byte.Tie as tie
 
--- src/lib.rt:177:9
 spelled-requires : tie.Need-spelled-requires
 spelled-requires c κs =
     let a = c .args in
     field-small (a .p) (a .more) (a .acc) (c .pre .1)
 
--- src/lib.rt:179:39
 add-field-end : tie.Need-add-field-end
 add-field-end c = search needs
 
--- src/lib.rt:179:9
 field-end-requires : tie.Need-field-end-requires
 field-end-requires c κs = search needs
 
--- src/lib.rt:179:9
 returns : tie.Need-returns
 returns c =
     let a = c .before .before .before .args in
@@ -31,11 +27,9 @@ returns c =
     ∙ ap (λ (v : ℕ). trafEnds (a .id) (a .t) (a .p) v f (a .n + 1)) (c .before .before .spelled .ensures)
     ∙ sym (field-last (a .id) (a .t) (a .p) f (a .n) (a .b) (a .more) (a .acc) (c .before .if1 .taken))
 
--- src/lib.rt:183:15
 sub-t11 : tie.Need-sub-t11
 sub-t11 c = search needs
 
--- src/lib.rt:172:1
 returns-2 : tie.Need-returns-2
 returns-2 c =
     let a = c .before .before .args in

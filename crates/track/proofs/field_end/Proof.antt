@@ -11,50 +11,39 @@ use borrow.Author.Needs.{needs}
 use Rattle.track.proofs.field_end.Statement.{statement}
 use Rattle.track.proofs.field_end.Tie as tie
 
--- src/lib.rt:148:31
 enum-known-p : tie.Need-enum-known-p
 enum-known-p c = search needs
 
--- src/lib.rt:156:29
 enum-known-p-2 : tie.Need-enum-known-p-2
 enum-known-p-2 c = search needs
 
--- src/lib.rt:156:38
 rest-to-requires : tie.Need-rest-to-requires
 rest-to-requires c κs = search needs
 
--- src/lib.rt:157:29
 enum-known-p-3 : tie.Need-enum-known-p-3
 enum-known-p-3 c = search needs
 
--- src/lib.rt:157:43
 version-end-requires : tie.Need-version-end-requires
 version-end-requires c κs = search needs
 
--- src/lib.rt:158:31
 enum-known-p-4 : tie.Need-enum-known-p-4
 enum-known-p-4 c = search needs
 
--- src/lib.rt:162:23
 time-more-requires : tie.Need-time-more-requires
 time-more-requires c κs = search needs
 
--- src/lib.rt:166:26
 enum-known-p-5 : tie.Need-enum-known-p-5
 enum-known-p-5 c = search needs
 
--- src/lib.rt:166:63
 is-reference-requires : tie.Need-is-reference-requires
 is-reference-requires c κs = search needs
 
--- src/lib.rt:143:1
 returns : tie.Need-returns
 unfolding trafEnds
 returns c =
     let a = c .before .before .before .args in
     λ f. sym (ap (λ (q : TrafPart). trafEnds (a .id) (a .t) q (a .v) f (a .n)) (c .before .p .given .1))
 
--- src/lib.rt:143:1
 returns-2 : tie.Need-returns-2
 unfolding trafEnds
 returns-2 c =
@@ -62,14 +51,12 @@ returns-2 c =
     λ f. c .rest-to .ensures f
     ∙ sym (ap (λ (q : TrafPart). trafEnds (a .id) (a .t) q (a .v) f (a .n)) (c .before .before .p2 .given .1))
 
--- src/lib.rt:143:1
 returns-3 : tie.Need-returns-3
 returns-3 c =
     let a = c .before .before .before .before .args in
     λ f. c .version-end .ensures (a .id) (a .t) f
     ∙ sym (ap (λ (q : TrafPart). trafEnds (a .id) (a .t) q (a .v) f (a .n)) (c .before .before .p3 .given .1))
 
--- src/lib.rt:143:1
 returns-4 : tie.Need-returns-4
 returns-4 c =
     let a = c .before .before .before .before .args in
@@ -77,7 +64,6 @@ returns-4 c =
     ∙ sym (time-flags (a .id) (a .t) (c .before .before .p4 .given .0 .0) (c .before .before .p4 .given .0 .1 .0) (a .v) f (a .n))
     ∙ sym (ap (λ (q : TrafPart). trafEnds (a .id) (a .t) q (a .v) f (a .n)) (c .before .before .p4 .given .1))
 
--- src/lib.rt:143:1
 returns-5 : tie.Need-returns-5
 unfolding trafEnds
 returns-5 c =

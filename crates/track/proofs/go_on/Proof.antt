@@ -5,27 +5,22 @@ use Rattle.machine.specs.Faults.{lowest, unless}
 use Rattle.machine.specs.Lists.{goOn}
 use Rattle.state.specs.Flow.{left}
 use Rattle.state.specs.Traf.{trafNext}
-use Rattle.state.specs.declared.Track.the-variants as track
 use Rattle.track.proofs.Laws.{lacks-none, lacks-one}
 use borrow.Author.Needs.{needs}
 use Rattle.track.proofs.go_on.Statement.{statement}
 use Rattle.track.proofs.go_on.Tie as tie
 
--- src/lib.rt:331:9
 returns : tie.Need-returns
 unfolding goOn trafNext unless pick
 returns c = λ id f. simp (ne-eqb _ _ (c .if1 .taken))
 
--- src/lib.rt:334:8
 is-timed-requires : tie.Need-is-timed-requires
 is-timed-requires c κs = search needs
 
--- src/lib.rt:336:9
 returns-2 : tie.Need-returns-2
 unfolding goOn trafNext unless pick
 returns-2 c = λ id f. simp (eq-eqb _ _ (c .before .before .before .if1 .left), lacks-none (c .before .before .before .before .before .args .span .pos) (c .before .before .before .before .before .args .so .track) (sym (c .before .before .is-timed .ensures) ∙ c .before .if2 .taken))
 
--- src/lib.rt:327:1
 returns-3 : tie.Need-returns-3
 unfolding goOn trafNext unless pick lowest
 returns-3 c = λ id f. simp (eq-eqb _ _ (c .before .before .if1 .left), lacks-one (c .before .before .before .before .args .span .pos) (c .before .before .before .before .args .so .track) (sym (c .before .is-timed .ensures) ∙ c .if2 .left))

@@ -4,29 +4,23 @@ use borrow.Author.Needs.{needs}
 use Rattle.track.proofs.is_reference.Statement.{statement}
 use Rattle.track.proofs.is_reference.Tie as tie
 
--- src/lib.rt:136:25
 enum-told : tie.Need-enum-told
 enum-told c = search needs
 
--- src/lib.rt:137:25
 enum-known-t : tie.Need-enum-known-t
 enum-known-t c = search needs
 
--- src/lib.rt:138:25
 enum-told-2 : tie.Need-enum-told-2
 enum-told-2 c = search needs
 
--- src/lib.rt:132:1
 returns : tie.Need-returns
 unfolding reference
 returns c = sym (ap reference (c .enum-told .given .1))
 
--- src/lib.rt:132:1
 returns-2 : tie.Need-returns-2
 unfolding reference
 returns-2 c = sym (ap reference (c .before .t .given .1))
 
--- src/lib.rt:132:1
 returns-3 : tie.Need-returns-3
 unfolding reference
 returns-3 c = sym (ap reference (c .enum-told2 .given .1))

@@ -4,29 +4,23 @@ use borrow.Author.Needs.{needs}
 use Rattle.track.proofs.is_timed.Statement.{statement}
 use Rattle.track.proofs.is_timed.Tie as tie
 
--- src/lib.rt:301:25
 enum-told : tie.Need-enum-told
 enum-told c = search needs
 
--- src/lib.rt:302:43
 enum-told-2 : tie.Need-enum-told-2
 enum-told-2 c = search needs
 
--- src/lib.rt:303:25
 enum-told-3 : tie.Need-enum-told-3
 enum-told-3 c = search needs
 
--- src/lib.rt:297:1
 returns : tie.Need-returns
 unfolding timedTrack
 returns c = sym (ap timedTrack (c .enum-told .given .1))
 
--- src/lib.rt:297:1
 returns-2 : tie.Need-returns-2
 unfolding timedTrack
 returns-2 c = sym (ap timedTrack (c .enum-told2 .given .1))
 
--- src/lib.rt:297:1
 returns-3 : tie.Need-returns-3
 unfolding timedTrack
 returns-3 c = sym (ap timedTrack (c .enum-told3 .given .1))

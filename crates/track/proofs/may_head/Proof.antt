@@ -4,29 +4,23 @@ use borrow.Author.Needs.{needs}
 use Rattle.track.proofs.may_head.Statement.{statement}
 use Rattle.track.proofs.may_head.Tie as tie
 
--- src/lib.rt:230:25
 enum-told : tie.Need-enum-told
 enum-told c = search needs
 
--- src/lib.rt:231:43
 enum-told-2 : tie.Need-enum-told-2
 enum-told-2 c = search needs
 
--- src/lib.rt:232:25
 enum-told-3 : tie.Need-enum-told-3
 enum-told-3 c = search needs
 
--- src/lib.rt:226:1
 returns : tie.Need-returns
 unfolding fresh
 returns c = sym (ap fresh (c .enum-told .given .1))
 
--- src/lib.rt:226:1
 returns-2 : tie.Need-returns-2
 unfolding fresh
 returns-2 c = sym (ap fresh (c .enum-told2 .given .1))
 
--- src/lib.rt:226:1
 returns-3 : tie.Need-returns-3
 unfolding fresh
 returns-3 c = sym (ap fresh (c .enum-told3 .given .1))

@@ -4,29 +4,23 @@ use borrow.Author.Needs.{needs}
 use Rattle.track.proofs.may_time.Statement.{statement}
 use Rattle.track.proofs.may_time.Tie as tie
 
--- src/lib.rt:240:25
 enum-told : tie.Need-enum-told
 enum-told c = search needs
 
--- src/lib.rt:241:43
 enum-told-2 : tie.Need-enum-told-2
 enum-told-2 c = search needs
 
--- src/lib.rt:242:25
 enum-told-3 : tie.Need-enum-told-3
 enum-told-3 c = search needs
 
--- src/lib.rt:236:1
 returns : tie.Need-returns
 unfolding headedTrack
 returns c = sym (ap headedTrack (c .enum-told .given .1))
 
--- src/lib.rt:236:1
 returns-2 : tie.Need-returns-2
 unfolding headedTrack
 returns-2 c = sym (ap headedTrack (c .enum-told2 .given .1))
 
--- src/lib.rt:236:1
 returns-3 : tie.Need-returns-3
 unfolding headedTrack
 returns-3 c = sym (ap headedTrack (c .enum-told3 .given .1))

@@ -5,11 +5,9 @@ use Rattle.state.specs.Flow.{left}
 use Rattle.track.proofs.skip_to.Statement.{statement}
 use Rattle.track.proofs.skip_to.Tie as tie
 
--- src/lib.rt:68:9
 returns : tie.Need-returns
 returns c = λ f. sym (pick-yes _ _ _ (le-leb _ _ (c .if1 .taken)))
 
--- src/lib.rt:64:1
 returns-2 : tie.Need-returns-2
 returns-2 c = λ f. sym (pick-no _ _ _ (lt-leb _ _ (c .if1 .left)))
 

@@ -12,11 +12,9 @@ use borrow.Author.Needs.{needs}
 use Rattle.track.proofs.time_end.Statement.{statement}
 use Rattle.track.proofs.time_end.Tie as tie
 
--- src/lib.rt:360:8
 falls-requires : tie.Need-falls-requires
 falls-requires c κs = search needs
 
--- src/lib.rt:361:9
 returns : tie.Need-returns
 unfolding trafNow fallFaults shows
 returns c =
@@ -25,15 +23,12 @@ returns c =
     (ap (λ (t : Bool). goOn (trafBoxes id (a .span)) wrapTraf (trafNext (a .span) (trafNow (a .so) (timed (a .reference) (a .pos) (a .v))) (shows t 18 (a .pos)) (a .n)) f) (sym (c .before .falls .ensures) ∙ c .if1 .taken)
     ∙ falling id (a .span) _ (a .pos) (a .n) f)
 
--- src/lib.rt:366:9
 with-time-requires : tie.Need-with-time-requires
 with-time-requires c κs = search needs
 
--- src/lib.rt:367:5
 go-on-requires : tie.Need-go-on-requires
 go-on-requires c κs = search needs
 
--- src/lib.rt:356:1
 returns-2 : tie.Need-returns-2
 unfolding trafNow fallFaults shows
 returns-2 c =

@@ -4,11 +4,9 @@ use Rattle.state.specs.Flow.{left}
 use Rattle.track.proofs.time_more.Statement.{statement}
 use Rattle.track.proofs.time_more.Tie as tie
 
--- src/lib.rt:127:9
 returns : tie.Need-returns
 returns c = sym (pick-yes _ _ _ (c .if1 .taken))
 
--- src/lib.rt:123:1
 returns-2 : tie.Need-returns-2
 returns-2 c = sym (pick-no _ _ _ (c .if1 .left))
 

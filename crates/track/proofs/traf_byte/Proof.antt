@@ -6,48 +6,38 @@ use Rattle.machine.specs.Heads.{stepHead}
 use Rattle.state.specs.Flow.{left}
 use Rattle.state.specs.Traf.{stepTrafBody, stepTraf}
 use Rattle.state.specs.Ranges.{Within, trafBounds}
-use Rattle.state.specs.declared.Track.the-variants as track
 use Rattle.state.specs.declared.TrafBoxes.{TrafBoxes}
 use Rattle.track.specs.Track.{afterBody, afterHead}
 use borrow.Author.Needs.{needs}
 use Rattle.track.proofs.traf_byte.Statement.{statement}
 use Rattle.track.proofs.traf_byte.Tie as tie
 
--- src/lib.rt:454:25
 enum-known-s : tie.Need-enum-known-s
 enum-known-s c = search needs
 
--- src/lib.rt:455:17
 head-byte-requires : tie.Need-head-byte-requires
 unfolding trafBounds
 head-byte-requires c κs = (subst (λ (q : TrafBoxes). Within (trafBounds q)) (c .before .s .given .1) (c .before .before .before .pre .0), c .before .before .before .pre .1)
 
--- src/lib.rt:456:37
 add-after-head : tie.Need-add-after-head
 add-after-head c = search needs
 
--- src/lib.rt:456:13
 after-head-requires : tie.Need-after-head-requires
 after-head-requires c κs = search needs
 
--- src/lib.rt:458:25
 enum-known-s-2 : tie.Need-enum-known-s-2
 enum-known-s-2 c = search needs
 
--- src/lib.rt:460:17
 body-byte-requires : tie.Need-body-byte-requires
 unfolding trafBounds
 body-byte-requires c κs = (c .before .before .before .pre .1, subst (λ (q : TrafBoxes). Within (trafBounds q)) (c .before .s2 .given .1) (c .before .before .before .pre .0))
 
--- src/lib.rt:461:37
 add-after-body : tie.Need-add-after-body
 add-after-body c = search needs
 
--- src/lib.rt:461:13
 after-body-requires : tie.Need-after-body-requires
 after-body-requires c κs = search needs
 
--- src/lib.rt:449:1
 returns : tie.Need-returns
 unfolding stepTraf stepBox
 returns c =
@@ -57,7 +47,6 @@ returns c =
     ∙ ap (λ (m : ℕ). afterHead (a .id) (a .span) (c .before .before .before .s .given .0 .0) m (stepHead left (a .span .end) (c .before .before .before .s .given .0 .1 .0) f (a .n) (a .b))) (add-one (a .n))
     ∙ sym (ap (λ (q : TrafBoxes). stepTraf (a .id) (a .span) q f (a .n) (a .b)) (c .before .before .before .s .given .1))
 
--- src/lib.rt:449:1
 returns-2 : tie.Need-returns-2
 unfolding stepTraf stepBox
 returns-2 c =

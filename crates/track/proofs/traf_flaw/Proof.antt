@@ -9,11 +9,9 @@ use borrow.Author.Needs.{needs}
 use Rattle.track.proofs.traf_flaw.Statement.{statement}
 use Rattle.track.proofs.traf_flaw.Tie as tie
 
--- src/lib.rt:251:16
 sub-body : tie.Need-sub-body
 sub-body c = search needs
 
--- src/lib.rt:254:13
 returns : tie.Need-returns
 unfolding pick
 returns c =
@@ -21,11 +19,9 @@ returns c =
     (flaw-traf (c .before .before .before .before .args .t) (c .before .before .before .before .args .h)
     ∙ simp (eq-eqb _ _ (c .before .if1 .taken), lt-ltb _ _ (c .if2 .taken)))
 
--- src/lib.rt:256:12
 may-head-requires : tie.Need-may-head-requires
 may-head-requires c κs = search needs
 
--- src/lib.rt:257:13
 returns-2 : tie.Need-returns-2
 unfolding pick
 returns-2 c =
@@ -34,7 +30,6 @@ returns-2 c =
     (flaw-traf (a .t) (a .h)
     ∙ simp (eq-eqb _ _ (c .before .before .before .if1 .taken), ne-eqb (a .h .kind) tfdt (λ e. omega (arith, c .before .before .before .if1 .taken)), ne-eqb (a .h .kind) tfad (λ e. omega (arith, c .before .before .before .if1 .taken)), le-ltb _ _ (c .before .before .if2 .left), sym (c .before .may-head .ensures) ∙ c .if3 .taken))
 
--- src/lib.rt:259:9
 returns-3 : tie.Need-returns-3
 unfolding pick
 returns-3 c =
@@ -43,7 +38,6 @@ returns-3 c =
     (flaw-traf (a .t) (a .h)
     ∙ simp (eq-eqb _ _ (c .before .before .before .if1 .taken), ne-eqb (a .h .kind) tfdt (λ e. omega (arith, c .before .before .before .if1 .taken)), le-ltb _ _ (c .before .before .if2 .left), sym (c .before .may-head .ensures) ∙ c .if3 .left))
 
--- src/lib.rt:263:13
 returns-4 : tie.Need-returns-4
 unfolding pick
 returns-4 c =
@@ -51,11 +45,9 @@ returns-4 c =
     (flaw-traf (c .before .before .before .before .before .before .args .t) (c .before .before .before .before .before .before .args .h)
     ∙ simp (ne-eqb _ _ (c .before .before .before .if1 .left), eq-eqb _ _ (c .before .if4 .taken), lt-ltb _ _ (c .if5 .taken)))
 
--- src/lib.rt:265:12
 may-time-requires : tie.Need-may-time-requires
 may-time-requires c κs = search needs
 
--- src/lib.rt:266:13
 returns-5 : tie.Need-returns-5
 unfolding pick
 returns-5 c =
@@ -64,7 +56,6 @@ returns-5 c =
     (flaw-traf (a .t) (a .h)
     ∙ simp (ne-eqb _ _ (c .before .before .before .before .before .if1 .left), eq-eqb _ _ (c .before .before .before .if4 .taken), ne-eqb (a .h .kind) tfad (λ e. omega (arith, c .before .before .before .if4 .taken)), le-ltb _ _ (c .before .before .if5 .left), sym (c .before .may-time .ensures) ∙ c .if6 .taken))
 
--- src/lib.rt:268:9
 returns-6 : tie.Need-returns-6
 unfolding pick
 returns-6 c =
@@ -72,7 +63,6 @@ returns-6 c =
     (flaw-traf (c .before .before .before .before .before .before .before .before .args .t) (c .before .before .before .before .before .before .before .before .args .h)
     ∙ simp (ne-eqb _ _ (c .before .before .before .before .before .if1 .left), eq-eqb _ _ (c .before .before .before .if4 .taken), le-ltb _ _ (c .before .before .if5 .left), sym (c .before .may-time .ensures) ∙ c .if6 .left))
 
--- src/lib.rt:271:9
 returns-7 : tie.Need-returns-7
 unfolding pick
 returns-7 c =
@@ -80,7 +70,6 @@ returns-7 c =
     (flaw-traf (c .before .before .before .before .before .before .before .args .t) (c .before .before .before .before .before .before .before .args .h)
     ∙ simp (ne-eqb _ _ (c .before .before .before .before .if1 .left), ne-eqb _ _ (c .before .before .if4 .left), eq-eqb _ _ (c .if7 .taken)))
 
--- src/lib.rt:247:1
 returns-8 : tie.Need-returns-8
 unfolding pick
 returns-8 c =

@@ -7,35 +7,28 @@ use borrow.Author.Needs.{needs}
 use Rattle.track.proofs.version_end.Statement.{statement}
 use Rattle.track.proofs.version_end.Tie as tie
 
--- src/lib.rt:89:9
 returns : tie.Need-returns
 unfolding trafEnds tfdtVersionFaults unless shows lowest
 returns c = λ id t f. simp (lt-ltb _ _ (c .if1 .taken), ne-eqb (c .before .args .v) 0 (λ e. omega (arith, c .if1 .taken)), ne-eqb (c .before .args .v) 1 (λ e. omega (arith, c .if1 .taken)))
 
--- src/lib.rt:95:19
 add-if3 : tie.Need-add-if3
 add-if3 c = search needs
 
--- src/lib.rt:96:13
 returns-2 : tie.Need-returns-2
 unfolding trafEnds tfdtVersionFaults unless shows lowest
 returns-2 c = λ id t f. simp (le-ltb _ _ (c .before .before .if1 .left), eq-eqb _ _ (c .before .if2 .taken), ne-eqb (c .before .before .before .args .v) 1 (λ e. omega (arith, c .before .if2 .taken)), ne-eqb _ _ (c .if3 .taken))
 
--- src/lib.rt:102:9
 returns-3 : tie.Need-returns-3
 unfolding trafEnds tfdtVersionFaults unless shows lowest
 returns-3 c = λ id t f. simp (le-ltb _ _ (c .before .before .if1 .left), eq-eqb _ _ (c .before .if2 .taken), ne-eqb (c .before .before .before .args .v) 1 (λ e. omega (arith, c .before .if2 .taken)), eq-eqb _ _ (c .if3 .left))
 
--- src/lib.rt:108:15
 add-if4 : tie.Need-add-if4
 add-if4 c = search needs
 
--- src/lib.rt:109:9
 returns-4 : tie.Need-returns-4
 unfolding trafEnds tfdtVersionFaults unless shows lowest
 returns-4 c = λ id t f. simp (le-ltb _ _ (c .before .before .if1 .left), ne-eqb _ _ (c .before .if2 .left), eq-eqb (c .before .before .before .args .v) 1 (omega (arith, c .before .before .if1 .left, c .before .if2 .left)), ne-eqb _ _ (c .if4 .taken))
 
--- src/lib.rt:84:1
 returns-5 : tie.Need-returns-5
 unfolding trafEnds tfdtVersionFaults unless shows lowest
 returns-5 c = λ id t f. simp (le-ltb _ _ (c .before .before .if1 .left), ne-eqb _ _ (c .before .if2 .left), eq-eqb (c .before .before .before .args .v) 1 (omega (arith, c .before .before .if1 .left, c .before .if2 .left)), eq-eqb _ _ (c .if4 .left))

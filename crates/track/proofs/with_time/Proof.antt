@@ -4,17 +4,14 @@ use Rattle.state.specs.Traf.{saw}
 use Rattle.track.proofs.with_time.Statement.{statement}
 use Rattle.track.proofs.with_time.Tie as tie
 
--- src/lib.rt:283:13
 returns : tie.Need-returns
 unfolding saw pick
 returns c = simp (c .before .if1 .taken, c .if2 .taken)
 
--- src/lib.rt:289:9
 returns-2 : tie.Need-returns-2
 unfolding saw pick
 returns-2 c = simp (c .before .if1 .taken, c .if2 .left)
 
--- src/lib.rt:278:1
 returns-3 : tie.Need-returns-3
 unfolding saw pick
 returns-3 c = simp (c .if1 .left)

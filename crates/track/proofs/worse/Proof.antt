@@ -8,26 +8,21 @@ use borrow.Author.Needs.{needs}
 use Rattle.track.proofs.worse.Statement.{statement}
 use Rattle.track.proofs.worse.Tie as tie
 
--- src/lib.rt:312:9
 returns : tie.Need-returns
 unfolding pick lowest
 returns c = simp (ne-eqb _ _ (c .if1 .taken))
 
--- src/lib.rt:314:8
 is-timed-requires : tie.Need-is-timed-requires
 is-timed-requires c κs = search needs
 
--- src/lib.rt:315:9
 returns-2 : tie.Need-returns-2
 unfolding pick lowest
 returns-2 c = simp (eq-eqb _ _ (c .before .before .if1 .left), lacks-none (c .before .before .before .before .args .span .pos) (c .before .before .before .before .args .t) (sym (c .before .is-timed .ensures) ∙ c .if2 .taken))
 
--- src/lib.rt:318:9
 returns-3 : tie.Need-returns-3
 unfolding pick lowest
 returns-3 c = simp (eq-eqb _ _ (c .before .before .before .before .if1 .left), lacks-one (c .before .before .before .before .before .before .args .span .pos) (c .before .before .before .before .before .before .args .t) (sym (c .before .before .before .is-timed .ensures) ∙ c .before .before .if2 .left), lt-ltb _ _ (c .if3 .taken))
 
--- src/lib.rt:308:1
 returns-4 : tie.Need-returns-4
 unfolding pick lowest
 returns-4 c = simp (eq-eqb _ _ (c .before .before .before .before .if1 .left), lacks-one (c .before .before .before .before .before .before .args .span .pos) (c .before .before .before .before .before .before .args .t) (sym (c .before .before .before .is-timed .ensures) ∙ c .before .before .if2 .left), le-ltb _ _ (c .if3 .left))

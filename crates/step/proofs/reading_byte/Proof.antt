@@ -1,52 +1,32 @@
-use Prim.Native.Nat.{ℕ, _+_, _≤_, _<_}
-use mathlib.Core.Path.{_≡_, ap, sym, _∙_, subst}
-use mathlib.Core.List.{List}
+use mathlib.Core.Path.{ap, _∙_}
 use native.Mathlib.Omega.{arith}
-use Rattle.segment.specs.Constants.{limit}
 use Rattle.state.specs.declared.State.{State}
-use Rattle.state.specs.declared.State.the-variants as state
-use Rattle.state.specs.Ranges.{InRange}
-use Rattle.state.specs.Calls.{feedState}
-use Rattle.onward.specs.declared.StageStep.{StageStep}
-use Rattle.feed.specs.Answers.{answered, stepped}
-use Rattle.feed.proofs.Laws.{left-with, reading-one, reading-past, ended-one, ended-past, reading-count, reading-leaves, reading-stage, ended-count}
+use Rattle.step.proofs.Laws.{left-with, reading-one, reading-past, reading-count, reading-leaves, reading-stage}
 use borrow.Author.Needs.{needs}
-use Rattle.feed.proofs.reading_byte.Statement.{statement}
-use Rattle.feed.proofs.reading_byte.Tie as tie
-use Rattle.feed.proofs.reading_byte.Reads as reads
-use Rattle.feed.proofs.reading_byte.Lts as lts
-use Rattle.feed.proofs.past_limit.Reads as past-limit-reads
-use Rattle.stage.proofs.stage_byte.Reads as stage-byte-reads
-use Rattle.feed.proofs.state_after.Reads as state-after-reads
+use Rattle.step.proofs.reading_byte.Statement.{statement}
+use Rattle.step.proofs.reading_byte.Tie as tie
 
--- src/lib.rt:116:9
 past-limit-requires : tie.Need-past-limit-requires
 past-limit-requires c κs = search needs
 
--- src/lib.rt:116:9
 returns : tie.Need-returns
 returns c =
     ap (λ (q : State). left-with q (c .before .before .before .before .args .work .now) (c .before .before .before .before .args .table .now)) (c .past-limit .ensures)
     ∙ reading-past (c .before .before .before .before .args .n) (c .before .before .before .before .args .r .leaves) (c .before .before .before .before .args .r .now) (c .before .before .before .before .args .r .last) (c .before .before .before .before .args .b) (c .before .before .before .before .args .s) (c .before .before .before .before .args .work .now) (c .before .before .before .before .args .table .now) (c .before .if1 .taken)
 
--- src/lib.rt:118:9
 stage-byte-requires : tie.Need-stage-byte-requires
 stage-byte-requires c κs =
     (omega (arith, c .before .before .if1 .left, reading-count (c .before .before .before .before .before .args .n) (c .before .before .before .before .before .args .r .leaves) (c .before .before .before .before .before .args .r .now) (c .before .before .before .before .before .args .r .last) (c .before .before .before .before .before .args .s) (c .before .before .before .before .before .pre .1)), c .before .before .before .before .before .pre .0, reading-leaves (c .before .before .before .before .before .args .n) (c .before .before .before .before .before .args .r .leaves) (c .before .before .before .before .before .args .r .now) (c .before .before .before .before .before .args .r .last) (c .before .before .before .before .before .args .s) (c .before .before .before .before .before .pre .1), reading-stage (c .before .before .before .before .before .args .n) (c .before .before .before .before .before .args .r .leaves) (c .before .before .before .before .before .args .r .now) (c .before .before .before .before .before .args .r .last) (c .before .before .before .before .before .args .s) (c .before .before .before .before .before .pre .1))
 
--- src/lib.rt:119:5
 state-after-requires : tie.Need-state-after-requires
 state-after-requires c κs = reading-count (c .before .before .before .before .before .before .before .before .before .before .args .n) (c .before .before .before .before .before .before .before .before .before .before .args .r .leaves) (c .before .before .before .before .before .before .before .before .before .before .args .r .now) (c .before .before .before .before .before .before .before .before .before .before .args .r .last) (c .before .before .before .before .before .before .before .before .before .before .args .s) (c .before .before .before .before .before .before .before .before .before .before .pre .1)
 
--- src/lib.rt:111:1
 same-length : tie.Need-same-length
 same-length c = search needs
 
--- src/lib.rt:111:1
 same-length-2 : tie.Need-same-length-2
 same-length-2 c = search needs
 
--- src/lib.rt:111:1
 returns-2 : tie.Need-returns-2
 returns-2 c =
     reading-one (c .before .before .before .before .before .before .before .before .before .before .before .args .n) (c .before .before .before .before .before .before .before .before .before .before .before .args .r .leaves) (c .before .before .before .before .before .before .before .before .before .before .before .args .r .now) (c .before .before .before .before .before .before .before .before .before .before .before .args .r .last) (c .before .before .before .before .before .before .before .before .before .before .before .args .b) (c .before .before .before .before .before .before .before .before .before .before .before .args .s) _ _ (c .before .before .before .before .before .stage-byte .result) _ _ (c .state-after .result)

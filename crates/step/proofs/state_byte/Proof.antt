@@ -1,71 +1,47 @@
-use Prim.Native.Nat.{ℕ, _+_, _≤_, _<_}
-use mathlib.Core.Path.{_≡_, ap, sym, _∙_, subst}
-use mathlib.Core.List.{List}
+use mathlib.Core.Path.{subst}
 use native.Mathlib.Omega.{arith}
-use Rattle.segment.specs.Constants.{limit}
-use Rattle.state.specs.declared.State.{State}
-use Rattle.state.specs.declared.State.the-variants as state
 use Rattle.state.specs.Ranges.{InRange}
-use Rattle.state.specs.Calls.{feedState}
-use Rattle.onward.specs.declared.StageStep.{StageStep}
-use Rattle.feed.specs.Answers.{answered, stepped}
-use Rattle.feed.proofs.Laws.{one-kept, left-with, fed-as, refused-stays, accepted-stays, reading-one, reading-past, ended-one, ended-past, reading-count, reading-leaves, reading-stage, ended-count}
+use Rattle.step.proofs.Laws.{one-kept, fed-as, refused-stays, accepted-stays, ended-count}
 use borrow.Author.Needs.{needs}
-use Rattle.feed.proofs.state_byte.Statement.{statement}
-use Rattle.feed.proofs.state_byte.Tie as tie
-use Rattle.feed.proofs.state_byte.Reads as reads
-use Rattle.feed.proofs.state_byte.Lts as lts
-use Rattle.feed.proofs.byte_after.Reads as byte-after-reads
-use Rattle.feed.proofs.reading_byte.Reads as reading-byte-reads
+use Rattle.step.proofs.state_byte.Statement.{statement}
+use Rattle.step.proofs.state_byte.Tie as tie
 
--- src/lib.rt:147:13
 enum-known-s : tie.Need-enum-known-s
 enum-known-s c = search needs
 
--- src/lib.rt:152:14
 reading-byte-requires : tie.Need-reading-byte-requires
 reading-byte-requires c κs = (c .before .before .before .before .before .before .before .pre .0, subst InRange (c .before .before .before .s .given .1) (c .before .before .before .before .before .before .before .pre .1))
 
--- src/lib.rt:153:24
 enum-known-s-2 : tie.Need-enum-known-s-2
 enum-known-s-2 c = search needs
 
--- src/lib.rt:153:48
 byte-after-requires : tie.Need-byte-after-requires
 byte-after-requires c κs = ended-count (c .before .s2 .given .0 .0) (c .before .s2 .given .0 .1 .0) (c .before .s2 .given .0 .1 .1 .0) (subst InRange (c .before .s2 .given .1) (c .before .before .before .before .before .pre .1))
 
--- src/lib.rt:158:14
 enum-told : tie.Need-enum-told
 enum-told c = search needs
 
--- src/lib.rt:163:14
 enum-told-2 : tie.Need-enum-told-2
 enum-told-2 c = search needs
 
--- src/lib.rt:141:1
 same-length : tie.Need-same-length
 same-length c = search needs
 
--- src/lib.rt:141:1
 same-length-2 : tie.Need-same-length-2
 same-length-2 c = search needs
 
--- src/lib.rt:141:1
 returns : tie.Need-returns
 returns c =
     let e = fed-as (c .before .before .before .before .before .before .before .before .before .before .before .before .args .s) _ _ _ _ _ (c .before .before .before .before .before .before .before .before .s .given .1) (c .before .before .before .before .reading-byte .ensures) in (e, one-kept (c .before .before .before .before .before .before .before .before .before .before .before .before .args .s) _ (c .before .before .before .before .before .before .before .before .before .before .before .before .args .b) _ _ _ _ (omega arith) (c .before .before .before .before .before .before .before .before .before .before .before .before .pre .1) e)
 
--- src/lib.rt:141:1
 returns-2 : tie.Need-returns-2
 returns-2 c =
     let e = fed-as (c .before .before .before .before .before .before .args .s) _ _ _ _ _ (c .before .before .s2 .given .1) (c .byte-after .ensures _ _) in (e, one-kept (c .before .before .before .before .before .before .args .s) _ (c .before .before .before .before .before .before .args .b) _ _ _ _ (omega arith) (c .before .before .before .before .before .before .pre .1) e)
 
--- src/lib.rt:141:1
 returns-3 : tie.Need-returns-3
 returns-3 c =
     let e = refused-stays (c .before .before .before .before .args .s) _ _ _ _ _ _ (c .enum-told .given .1) in (e, one-kept (c .before .before .before .before .args .s) _ (c .before .before .before .before .args .b) _ _ _ _ (omega arith) (c .before .before .before .before .pre .1) e)
 
--- src/lib.rt:141:1
 returns-4 : tie.Need-returns-4
 returns-4 c =
     let e = accepted-stays (c .before .before .before .before .args .s) _ _ _ _ _ _ (c .enum-told2 .given .1) in (e, one-kept (c .before .before .before .before .args .s) _ (c .before .before .before .before .args .b) _ _ _ _ (omega arith) (c .before .before .before .before .pre .1) e)
