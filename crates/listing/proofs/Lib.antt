@@ -1,0 +1,4 @@
+pub mod Laws
+pub mod OneOutcome
+pub mod Decimal
+pub mod LinesOfS
