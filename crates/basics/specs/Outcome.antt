@@ -10,11 +10,14 @@ use denote.Triple.Clauses.{Lasts, AtExit, atExit}
 abbrev pub after : (n : ℕ) (ps : List (PK n)) (res : RK n) (κs : Lfts n) (given : Dens κs ps) → Lasts (endedOf n ps res) κs given → AtExit (endedOf n ps res) κs
 after n ps res κs given left = atExit (endedOf n ps res) κs given left
 
+-- of one thing given: one answer, and one state of what was given after the call
+abbrev pub Coincide : (n : ℕ) (ps : List (PK n)) (res : RK n) (Post : Out n ps res) → Type 0
+Coincide n ps res Post =
+    (κs : Lfts n) (given : Dens κs ps) (r r' : resT res κs .Denot) (left left' : Lasts (endedOf n ps res) κs given) →
+    Post κs given r (after n ps res κs given left) → Post κs given r' (after n ps res κs given left') →
+    (r ≡ r') × (after n ps res κs given left ≡ after n ps res κs given left')
+
 pub record OneOutcome (n : ℕ) (ps : List (PK n)) (res : RK n) (Pre : In n ps) (Post : Out n ps res) : Type 0 where
   -- nothing that can be given is left out
   pub asks-nothing : (κs : Lfts n) (given : Dens κs ps) → Pre κs given
-  -- of one thing given: one answer, and one state of what was given after the call
-  pub outcomes-coincide :
-      (κs : Lfts n) (given : Dens κs ps) (r r' : resT res κs .Denot) (left left' : Lasts (endedOf n ps res) κs given) →
-      Post κs given r (after n ps res κs given left) → Post κs given r' (after n ps res κs given left') →
-      (r ≡ r') × (after n ps res κs given left ≡ after n ps res κs given left')
+  pub outcomes-coincide : Coincide n ps res Post
