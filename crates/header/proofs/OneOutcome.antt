@@ -36,7 +36,7 @@ seen-head f (heads.Taken (so.Read h)) = refl
 seen-head f (heads.Bad x) = refl
 
 -- answers that look alike while something flows are one
-pub head-seen : (f : Flow) (r r' : HeadStep) → viewHead f r ≡ viewHead f r' → r ≡ r'
+head-seen : (f : Flow) (r r' : HeadStep) → viewHead f r ≡ viewHead f r' → r ≡ r'
 head-seen f r r' e = sym (seen-head f r) ∙ (ap seenHead e ∙ seen-head f r')
 
 -- of one answer to a byte: one refusal
