@@ -1,0 +1,50 @@
+-- The contracts of the functions that other crates call, as the check reads them: two outcomes that one allows coincide, and one that asks nothing says so.
+use Prim.Native.Nat.{ℕ}
+use mathlib.Core.Path.{_≡_, refl, sym, ap, _∙_}
+use mathlib.Core.List.{List, []}
+use Rattle.basics.specs.Outcome.{Coincide, OneOutcome, after}
+use Rattle.machine.specs.Run.{Sub, go, done, bad}
+use Rattle.state.specs.declared.Sidx.{Sidx}
+use Rattle.state.specs.declared.Index.{Index}
+use Rattle.state.specs.Flow.{Flow, Left}
+use Rattle.index.specs.Views.{viewIndex, flowOf}
+use Rattle.index.specs.declared.IndexStep.{IndexStep}
+use Rattle.index.specs.declared.IndexStep.the-variants as steps
+use Rattle.index.specs.declared.IndexSo.the-variants as so
+use Rattle.index.proofs.refused_index.Kinds as refused-kinds
+use Rattle.index.proofs.refused_index.Reads as refused-stated
+use Rattle.index.proofs.index_byte.Kinds as byte-kinds
+use Rattle.index.proofs.index_byte.Reads as byte-stated
+
+-- the answer and the work area that a machine's answer is a view of
+abbrev seenIndex : Sub Sidx Index Flow Left → IndexStep × List ℕ
+seenIndex (go s f) = (steps.Taken (so.Going s), f .work)
+seenIndex (done x f) = (steps.Taken (so.Read x), f .work)
+seenIndex (bad x l) = (steps.Bad x, l .work)
+
+seen-index : (f : Flow) (r : IndexStep) → seenIndex (viewIndex f r) ≡ (r, f .work)
+seen-index f (steps.Taken (so.Going s)) = refl
+seen-index f (steps.Taken (so.Read x)) = refl
+seen-index f (steps.Bad x) = refl
+
+-- answers that look alike are one, and so are the work areas that they leave
+index-seen : (f f' : Flow) (r r' : IndexStep) → viewIndex f r ≡ viewIndex f' r' → _≡_ {A = IndexStep × List ℕ} (r, f .work) (r', f' .work)
+index-seen f f' r r' e = sym (seen-index f r) ∙ (ap seenIndex e ∙ seen-index f' r')
+
+-- of one answer to a byte: one refusal
+pub refused-index-once : OneOutcome 0 refused-kinds.ps refused-kinds.r refused-stated.Pre refused-stated.Post
+refused-index-once = record {
+  asks-nothing = λ κs given. tt;
+  outcomes-coincide = λ κs given r r' left left' p q. (p ∙ sym q, refl);
+}
+
+-- of one place, index so far, time, count of bytes, byte and work area: one answer, and one work area after the call, byte by byte
+pub index-byte-once : Coincide 1 byte-kinds.ps byte-kinds.r byte-stated.Post
+index-byte-once = λ κs given r r' left left' p q.
+    let at = given .1 .1 .1 .0 in
+    let held = left .1 .1 .1 .1 .1 .1 .0 in
+    let held' = left' .1 .1 .1 .1 .1 .1 .0 in
+    let same = index-seen (flowOf 0 at 0 held []) (flowOf 0 at 0 held' []) r r' (p 0 0 [] ∙ sym (q 0 0 [])) in (
+      ap (λ (o : IndexStep × List ℕ). o .0) same,
+      ap (λ (o : IndexStep × List ℕ). after 1 byte-kinds.ps byte-kinds.r κs given (tt, (tt, (tt, (tt, (tt, (tt, (o .1, tt)))))))) same,
+    )
