@@ -1,0 +1,84 @@
+-- The contracts of the functions that other crates call, as the check reads them: two outcomes that each allows coincide, and those that require nothing ask nothing.
+use Prim.Native.Nat.{ℕ}
+use mathlib.Core.Path.{_≡_, refl, sym, ap, _∙_}
+use mathlib.Core.List.{List}
+use mathlib.Core.Option.{Option, some, none}
+use lib.ListN.{replicate, length-replicate}
+use Rattle.basics.specs.Outcome.{OneOutcome, Coincide, after}
+use Rattle.state.specs.declared.Levels.{Levels}
+use Rattle.levels.specs.Views.{openOf}
+use Rattle.levels.specs.declared.Still.{Still}
+use Rattle.levels.specs.declared.Still.the-variants as still
+use Rattle.levels.proofs.word_at.Kinds as word-at-kinds
+use Rattle.levels.proofs.word_at.Reads as word-at-stated
+use Rattle.levels.proofs.depth.Kinds as depth-kinds
+use Rattle.levels.proofs.depth.Reads as depth-stated
+use Rattle.levels.proofs.took_entry.Kinds as took-entry-kinds
+use Rattle.levels.proofs.took_entry.Reads as took-entry-stated
+use Rattle.levels.proofs.push.Kinds as push-kinds
+use Rattle.levels.proofs.push.Reads as push-stated
+use Rattle.levels.proofs.still_open.Kinds as still-open-kinds
+use Rattle.levels.proofs.still_open.Reads as still-open-stated
+use Rattle.levels.proofs.read_back.Kinds as read-back-kinds
+use Rattle.levels.proofs.read_back.Reads as read-back-stated
+use Rattle.levels.proofs.no_room.Kinds as no-room-kinds
+use Rattle.levels.proofs.no_room.Reads as no-room-stated
+use Rattle.levels.proofs.put_row.Kinds as put-row-kinds
+use Rattle.levels.proofs.put_row.Reads as put-row-stated
+
+-- of one work area and place: one number
+pub word-at-once : Coincide 1 word-at-kinds.ps word-at-kinds.r word-at-stated.Post
+word-at-once κs given r r' left left' p q = (p ∙ sym q, refl)
+
+-- of the open indexes: one count
+pub depth-once : OneOutcome 0 depth-kinds.ps depth-kinds.r depth-stated.Pre depth-stated.Post
+depth-once = record {
+  asks-nothing = λ κs given. tt;
+  outcomes-coincide = λ κs given r r' left left' p q. (p ∙ sym q, refl);
+}
+
+-- of the open indexes: the same ones with an entry taken
+pub took-entry-once : Coincide 0 took-entry-kinds.ps took-entry-kinds.r took-entry-stated.Post
+took-entry-once κs given r r' left left' p q = (p ∙ sym q, refl)
+
+-- of the open indexes and one more: one nesting of them
+pub push-once : OneOutcome 0 push-kinds.ps push-kinds.r push-stated.Pre push-stated.Post
+push-once = record {
+  asks-nothing = λ κs given. tt;
+  outcomes-coincide = λ κs given r r' left left' p q. (p ∙ sym q, refl);
+}
+
+-- what the code answers, from what it says in the definitions' own types
+abbrev stillOf : Option Levels → Still
+stillOf (some ls) = still.Open ls
+stillOf none = still.Closed
+
+still-again : (s : Still) → stillOf (openOf s) ≡ s
+still-again (still.Open ls) = refl
+still-again still.Closed = refl
+
+-- of the open indexes: one answer, which of them stay open
+pub still-open-once : OneOutcome 0 still-open-kinds.ps still-open-kinds.r still-open-stated.Pre still-open-stated.Post
+still-open-once = record {
+  asks-nothing = λ κs given. tt;
+  outcomes-coincide = λ κs given r r' left left' p q. (sym (still-again r) ∙ ap stillOf (p ∙ sym q) ∙ still-again r', refl);
+}
+
+-- of one work area, the open indexes, a time and a byte count: one answer
+pub read-back-once : Coincide 1 read-back-kinds.ps read-back-kinds.r read-back-stated.Post
+read-back-once κs given r r' left left' p q = (p ∙ sym q, refl)
+
+-- of one count of leaves and one length of the table: one answer, since a table of that length can be had
+pub no-room-once : OneOutcome 0 no-room-kinds.ps no-room-kinds.r no-room-stated.Pre no-room-stated.Post
+no-room-once = record {
+  asks-nothing = λ κs given. tt;
+  outcomes-coincide = λ κs given r r' left left' p q.
+      let table : List ℕ = replicate (given .1 .0) 0 in
+      let long = length-replicate {A = ℕ} (given .1 .0) 0 in
+      (p table long ∙ sym (q table long), refl);
+}
+
+-- of one table, count of leaves, slot, time and first decode time: one table after the call, number by number
+pub put-row-once : Coincide 1 put-row-kinds.ps put-row-kinds.r put-row-stated.Post
+put-row-once κs given r r' left left' p q =
+    (refl, ap (λ (t : List ℕ). after 1 put-row-kinds.ps put-row-kinds.r κs given (t, (tt, (tt, (tt, (tt, tt)))))) (p ∙ sym q))
