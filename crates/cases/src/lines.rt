@@ -1,24 +1,24 @@
 // The lines of a file of data: each is one case, its first field the name.
-use crate::calls::run_calls;
-use crate::calls::run_state;
-use crate::files::read_file;
-use crate::long::run_long;
-use crate::lookups::run_lookup;
-use crate::prints::print;
-use crate::prints::print_number;
-use crate::segments::Tally;
-use crate::segments::run_met;
-use crate::segments::run_segment;
-use crate::stored::run_altered;
-use crate::stored::run_full;
-use crate::stored::run_room;
-use crate::stored::run_stored;
-use crate::text::decode;
-use crate::text::field;
-use crate::text::line_at;
-use crate::text::next_line;
-use crate::text::number;
-use crate::text::part;
+use calls::run_calls;
+use later::run_state;
+use lent::run_altered;
+use lent::run_room;
+use long::run_long;
+use met::run_met;
+use met::run_segment;
+use pieces::Tally;
+use stored::lookups::run_lookup;
+use stored::run_full;
+use stored::run_stored;
+use trial::files::read_file;
+use trial::prints::print;
+use trial::prints::print_number;
+use trial::text::decode;
+use trial::text::field;
+use trial::text::line_at;
+use trial::text::next_line;
+use trial::text::number;
+use trial::text::part;
 
 // What a file's lines are.
 pub enum Kind {

@@ -1,23 +1,13 @@
 // Runs the cases of document 01 that no theorem states, and prints a line for each: what the reader gives.
 // The file `stdout` has what document 01 asks for. A line goes on with `differs` or `not kept` only where the reader fails it.
-mod alike;
-mod calls;
-mod feeding;
-mod files;
 mod lines;
-mod long;
-mod lookups;
-mod prints;
-mod segments;
-mod stored;
-mod text;
 
-use files::read_file;
 use lines::Kind;
 use lines::run_lines;
-use prints::print_tally;
-use segments::Tally;
-use text::part;
+use pieces::Tally;
+use pieces::print_tally;
+use trial::files::read_file;
+use trial::text::part;
 
 // The lines of one file of data.
 fn run_file(path: &[u8], kind: Kind, before: Tally) -> Tally {

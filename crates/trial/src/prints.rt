@@ -1,0 +1,125 @@
+// What is printed of an answer. The text of a listing is that of the crate `listing`, its lines joined by `/`.
+use crate::alike::same_refusal;
+use crate::text::part;
+use libc::STDOUT_FILENO;
+use listing::Line;
+use listing::heading;
+use listing::leaf_line;
+use listing::refused_line;
+use lookup::LookupAnswer;
+use lookup::Record;
+use machine::Refusal;
+use state::FeedAnswer;
+use state::FinishAnswer;
+
+const NUMBERS: usize = 6;
+
+pub fn print(text: &[u8]) {
+    io::write_all(STDOUT_FILENO, text);
+}
+
+pub fn print_number(n: u64) {
+    io::print_decimal(STDOUT_FILENO, n);
+}
+
+fn print_line(line: Line) {
+    let bytes = line.bytes;
+    print(part(&bytes, 0, line.length));
+}
+
+fn print_refusal(r: Refusal) {
+    print_line(refused_line(r));
+}
+
+// `K read`, or a refusal.
+pub fn print_fed(answer: FeedAnswer) {
+    match answer {
+        FeedAnswer::Read(count) => {
+            print_number(count);
+            print(b" read");
+        }
+        FeedAnswer::Refused(refusal) => print_refusal(refusal),
+    }
+}
+
+// The record of leaf i, counted from 0, after a `/`.
+fn print_leaf(table: &[u64], i: usize) {
+    if i < table.len() / NUMBERS {
+        let at = NUMBERS * i;
+        let record = [
+            table[at],
+            table[at + 1],
+            table[at + 2],
+            table[at + 3],
+            table[at + 4],
+            table[at + 5],
+        ];
+        print(b"/");
+        print_line(leaf_line((i + 1) as u64, record));
+    }
+}
+
+fn print_leaves(leaves: u64, table: &[u64]) {
+    let mut i = 0;
+    while i < table.len() / NUMBERS && (i as u64) < leaves {
+        print_leaf(table, i);
+        i += 1;
+    }
+}
+
+fn leaf_count(answer: FinishAnswer) -> u64 {
+    match answer {
+        FinishAnswer::Listed(leaves) => leaves,
+        FinishAnswer::Refused(_) => 0,
+    }
+}
+
+// The first line of a listing.
+pub fn print_finished(answer: FinishAnswer) {
+    print_line(heading(answer));
+}
+
+// The whole listing in one line.
+pub fn print_listing(answer: FinishAnswer, table: &[u64]) {
+    print_line(heading(answer));
+    print_leaves(leaf_count(answer), table);
+}
+
+// The heading, and of the leaves the last one only.
+pub fn print_last(answer: FinishAnswer, table: &[u64]) {
+    print_line(heading(answer));
+    let leaves = leaf_count(answer);
+    if 0 < leaves {
+        print_leaf(table, (leaves - 1) as usize);
+    }
+}
+
+// The leaf's number and record, or a refusal.
+pub fn print_found(answer: LookupAnswer) {
+    match answer {
+        LookupAnswer::Found(leaf, r) => {
+            print_line(leaf_line(leaf, numbers_of(r)));
+        }
+        LookupAnswer::Refused(refusal) => print_refusal(refusal),
+    }
+}
+
+fn numbers_of(r: Record) -> [u64; 6] {
+    [r.position, r.size, r.start, r.duration, r.sap, r.time]
+}
+
+// What feed answered to one byte, and the listing in the end: a count and then the listing, or the refusal that is both.
+pub fn print_end(at: FeedAnswer, end: FinishAnswer, table: &[u64]) {
+    match at {
+        FeedAnswer::Read(count) => {
+            print_number(count);
+            print(b" read, ");
+        }
+        FeedAnswer::Refused(_) => {
+            if !same_refusal(at, end) {
+                print(b"differs at its byte: ");
+            }
+        }
+    }
+    print_listing(end, table);
+}
