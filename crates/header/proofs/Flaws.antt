@@ -1,7 +1,7 @@
 -- Laws of the lowest number: faults listed in the order of their numbers, and faults that share their place.
 use Prim.Native.Nat.{ℕ, _+_, _≤_, _<_, _%_}
 use mathlib.Core.Path.{_≡_, refl, ap, sym, _∙_}
-use mathlib.Core.List.{List, [], _∷_, _++_}
+use mathlib.Core.List.{List, [], _∷_, _++_, append-nil}
 use mathlib.Core.Bool.{Bool, true, false, not, _&&_, _||_}
 use native.Mathlib.Omega.{arith}
 use lib.Dec.{eqb, ltb}
@@ -138,6 +138,10 @@ pub size-placed : (end : ℕ) (h : Header) → Each (Placed (h .pos)) (sizeFault
 size-placed end h =
     each-append (Placed (h .pos)) _ _ (each-shows (Placed (h .pos)) (ltb (h .size) (h .head)) 4 (h .pos) (refl, omega arith))
     (each-shows (Placed (h .pos)) (ltb end (h .pos + h .size)) 5 (h .pos) (refl, omega arith))
+
+-- a header whose size shows no fault, whatever else it shows
+pub size-clean : (end : ℕ) (h : Header) → flawOf (sizeFaults end h) ≡ 0 → (h .head ≤ h .size) × (h .pos + h .size ≤ end)
+size-clean end h e = size-within end h [] (append-nil (sizeFaults end h) ∙ flaw-empty (h .pos) (sizeFaults end h) (size-placed end h) e)
 
 -- what the size of a header shows
 module _ (end : ℕ) (h : Header) where

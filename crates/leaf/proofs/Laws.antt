@@ -1,5 +1,5 @@
 -- A header that was read in a list of boxes, with a fault and without; the faults of a leaf's headers, and what a leaf lacks.
-use Prim.Native.Nat.{ℕ, _+_, _%_, _≤_}
+use Prim.Native.Nat.{ℕ, _%_, _≤_}
 use mathlib.Core.Path.{_≡_, refl, ap, sym, _∙_}
 use mathlib.Core.List.{[], _++_, append-nil}
 use mathlib.Core.Bool.{Bool, true, false, not, _&&_, _||_}
@@ -24,7 +24,6 @@ use Rattle.state.specs.Rows.{is, bodyLength, noRoom, topLengths, leafFaults}
 use Rattle.state.specs.Leaf.{leafLacks, leafNext, leafBoxes, wrapLeaf}
 use Rattle.state.specs.declared.Slot.{Slot}
 use Rattle.state.specs.declared.LeafSo.{LeafSo}
-use Rattle.track.proofs.Laws.{flaw-nil, size-right}
 use Rattle.leaf.specs.Leaf.{RoomIs, lackOf, afterBody, afterHeader}
 
 -- a header that was read, whose faults share one place
@@ -47,9 +46,6 @@ module _ (end : ℕ) (h : Header) where
 
   pub moof-placed : Each (Placed (h .pos)) (sizeFaults end h ++ [])
   moof-placed = each-append (Placed (h .pos)) (sizeFaults end h) [] (size-placed end h) (each-none (Placed (h .pos)))
-
-  pub size-within : flawOf (sizeFaults end h) ≡ 0 → h .pos + h .size ≤ end
-  size-within e = size-right end h (flaw-nil (h .pos) _ (size-placed end h) e) .1
 
 -- What a leaf lacks at its end.
 lowest-lacks : (a s : Bool) (x : Refusal) (p : ℕ) →

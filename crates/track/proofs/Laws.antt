@@ -1,12 +1,11 @@
 -- One byte of a number in a `traf`, by how many bytes of it follow; the lowest number of the faults that a header shows there.
 use Prim.Native.Nat.{ℕ, zero, suc, _+_, _-_, _*_, _≤_, _<_}
 use mathlib.Core.Path.{_≡_, refl, ap, sym}
-use mathlib.Core.List.{List, [], _∷_, _++_}
+use mathlib.Core.List.{[], _∷_, _++_}
 use mathlib.Core.Bool.{Bool, true, false, not, _&&_, _||_}
 use native.Mathlib.Omega.{arith}
 use native.Mathlib.Numerals.{add-one}
 use lib.Dec.{eqb, ltb}
-use borrow.Author.Tests.{ltb-false}
 use Rattle.basics.proofs.Picks.{pick-if}
 use Rattle.basics.specs.Choose.{pick}
 use Rattle.segment.specs.Constants.{tfhd, tfdt, tfad}
@@ -14,10 +13,8 @@ use Rattle.machine.specs.Faults.{refusal, shows, lowest, unless}
 use Rattle.machine.specs.Heads.{sizeFaults}
 use Rattle.machine.specs.Run.{go, bad, lift}
 use Rattle.machine.specs.Lists.{goOn, liftBox, liftBody, headed}
-use Rattle.machine.proofs.Kept.{Each, each-shows, each-append, each-lowest}
+use Rattle.machine.proofs.Kept.{Each, each-shows, each-append}
 use Rattle.machine.proofs.Lowest.{AtMostEach}
-use Rattle.machine.proofs.Faults.{none-first, none-second, shows-none}
-use Rattle.machine.specs.declared.Refusal.{Refusal}
 use Rattle.machine.specs.declared.Header.{Header}
 use Rattle.state.specs.Flow.{Flow, left}
 use Rattle.state.specs.Rows.{is, bodyLength, fresh, headedTrack, trafFaults}
@@ -34,7 +31,7 @@ use Rattle.state.specs.declared.TrafBody.the-variants as body
 use Rattle.track.specs.Track.{timedTrack, besideTraf, afterBody, afterHeader}
 use Rattle.header.specs.Flaws.{flawOf}
 use Rattle.header.proofs.Steps.{spelled-small}
-use Rattle.header.proofs.Flaws.{Placed, flaw-none, flaw-some, size-then, size-placed, at-most-shows, at-most-append}
+use Rattle.header.proofs.Flaws.{Placed, flaw-none, flaw-some, flaw-empty, size-then, size-within, size-placed, at-most-shows, at-most-append}
 
 module _ (id : ℕ) (t : Track) (p : TrafPart) (f : Flow) (n b : ℕ) where
   pub field-last : (more acc : ℕ) → more ≡ 0 → stepTrafBody id t (body.Field p more acc) f n b ≡ trafEnds id t p (acc * 256 + b) f (n + 1)
@@ -106,17 +103,6 @@ pub falling : (id : ℕ) (span : Span) (seen : Seen) (pos n : ℕ) (f : Flow) �
 unfolding goOn trafNext lacking unless lowest
 falling id span seen pos n f = pick-if (eqb n (span .end)) (λ q. goOn (trafBoxes id span) wrapTraf q f) _ _ _ (λ e. refl) (λ e. refl)
 
--- where no number is shown there is no fault
-pub flaw-nil : (p : ℕ) (xs : List Refusal) → Each (Placed p) xs → flawOf xs ≡ 0 → xs ≡ []
-unfolding flawOf Each
-flaw-nil p [] g e = refl
-flaw-nil p (y ∷ ys) g e = let h = each-lowest (Placed p) ys y (g .0) (g .1) in absurd (omega (arith, h .1))
-
--- a header whose size shows no fault: its body has a length, and the box ends within its container
-pub size-right : (end : ℕ) (h : Header) → sizeFaults end h ≡ [] → (h .head ≤ h .size) × (h .pos + h .size ≤ end)
-size-right end h e =
-    (ltb-false _ _ (shows-none (ltb (h .size) (h .head)) 4 (h .pos) (none-first _ _ e)), ltb-false _ _ (shows-none (ltb end (h .pos + h .size)) 5 (h .pos) (none-second (shows (ltb (h .size) (h .head)) 4 (h .pos)) _ e)))
-
 module _ (t : Track) (h : Header) where
   traf-placed : Each (Placed (h .pos)) (trafFaults t h)
   unfolding trafFaults
@@ -131,10 +117,7 @@ module _ (t : Track) (h : Header) where
   sizes-first end = size-then end h _ (from-five ((is h tfhd || is h tfdt) && ltb (bodyLength h) 8) (is h tfhd && not (fresh t) || is h tfdt && not (headedTrack t)) (is h tfad) (h .pos))
 
   pub all-right : (end : ℕ) → flawOf (sizeFaults end h ++ trafFaults t h) ≡ 0 → h .pos + h .size ≤ end
-  all-right end e = size-right end h (none-first _ _ (flaw-nil (h .pos) _ (all-placed end) e)) .1
-
-pub sizes-right : (end : ℕ) (h : Header) → flawOf (sizeFaults end h) ≡ 0 → h .head ≤ h .size
-sizes-right end h e = size-right end h (flaw-nil (h .pos) _ (size-placed end h) e) .0
+  all-right end e = size-within end h (trafFaults t h) (flaw-empty (h .pos) _ (all-placed end) e) .1
 
 -- a header that was read, with a fault and without
 module _ (id : ℕ) (span : Span) (so : TrafSo) (n : ℕ) (h : Header) (f : Flow) where

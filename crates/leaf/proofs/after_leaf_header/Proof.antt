@@ -9,9 +9,9 @@ use Rattle.machine.specs.Run.{bad, lift}
 use Rattle.machine.specs.declared.Refusal.{Refusal}
 use Rattle.state.specs.Flow.{left}
 use Rattle.state.specs.Leaf.{leafLacks, leafBoxes, wrapLeaf}
-use Rattle.track.proofs.Laws.{sizes-right}
+use Rattle.header.proofs.Flaws.{size-clean}
 use Rattle.leaf.specs.Leaf.{afterBody}
-use Rattle.leaf.proofs.Laws.{header-bad, header-good, size-within, size-shown, size-clear, leaf-placed}
+use Rattle.leaf.proofs.Laws.{header-bad, header-good, size-shown, size-clear, leaf-placed}
 use borrow.Author.Needs.{needs}
 use Rattle.leaf.proofs.after_leaf_header.Statement.{statement}
 use Rattle.leaf.proofs.after_leaf_header.Tie as tie
@@ -31,7 +31,7 @@ returns c =
     ∙ sym (header-bad (leafBoxes id (a .slot)) wrapLeaf (a .so) (a .n) (a .h) f (a .h .pos) (leaf-placed (a .slot .end) (a .slot .pos) (a .so .moof) (a .h) f) (λ k. c .before .if1 .taken ((c .before .before .size-flaw .ensures ∙ sym (size-shown (a .slot .pos) (a .so .moof) (a .h) f (a .slot .end) (λ k. c .before .if1 .taken (c .before .before .size-flaw .ensures ∙ k)))) ∙ k)))
 
 leaf-flaw-requires : tie.Need-leaf-flaw-requires
-leaf-flaw-requires c κs = sizes-right (c .before .before .args .slot .end) (c .before .before .args .h) (sym (c .before .size-flaw .ensures) ∙ c .if1 .left)
+leaf-flaw-requires c κs = size-clean (c .before .before .args .slot .end) (c .before .before .args .h) (sym (c .before .size-flaw .ensures) ∙ c .if1 .left) .0
 
 worse-in-leaf-requires-2 : tie.Need-worse-in-leaf-requires-2
 worse-in-leaf-requires-2 c κs = search needs
@@ -45,7 +45,7 @@ returns-2 c =
     ∙ sym (header-bad (leafBoxes id (a .slot)) wrapLeaf (a .so) (a .n) (a .h) f (a .h .pos) (leaf-placed (a .slot .end) (a .slot .pos) (a .so .moof) (a .h) f) (λ k. c .before .if2 .taken ((c .before .before .leaf-flaw .ensures f e ∙ sym (size-clear (a .slot .pos) (a .so .moof) (a .h) f (a .slot .end) (sym (c .before .before .before .before .size-flaw .ensures) ∙ c .before .before .before .if1 .left))) ∙ k)))
 
 begin-leaf-requires : tie.Need-begin-leaf-requires
-begin-leaf-requires c κs = omega (arith, size-within (c .before .before .before .before .before .args .slot .end) (c .before .before .before .before .before .args .h) (sym (c .before .before .before .before .size-flaw .ensures) ∙ c .before .before .before .if1 .left))
+begin-leaf-requires c κs = omega (arith, size-clean (c .before .before .before .before .before .args .slot .end) (c .before .before .before .before .before .args .h) (sym (c .before .before .before .before .size-flaw .ensures) ∙ c .before .before .before .if1 .left) .1)
 
 after-leaf-body-requires : tie.Need-after-leaf-body-requires
 after-leaf-body-requires c κs = search needs

@@ -3,10 +3,11 @@ use mathlib.Core.Path.{ap, sym, _∙_}
 use native.Mathlib.Omega.{arith}
 use Rattle.machine.specs.Faults.{refusal, lowest}
 use Rattle.machine.specs.Run.{bad, lift}
+use Rattle.header.proofs.Flaws.{size-clean}
 use Rattle.state.specs.Flow.{left}
 use Rattle.state.specs.Leaf.{moofBoxes, wrapMoof}
 use Rattle.leaf.specs.Leaf.{afterBody}
-use Rattle.leaf.proofs.Laws.{header-bad, header-good, moof-flaw, moof-placed, size-within}
+use Rattle.leaf.proofs.Laws.{header-bad, header-good, moof-flaw, moof-placed}
 use borrow.Author.Needs.{needs}
 use Rattle.leaf.proofs.after_moof_header.Statement.{statement}
 use Rattle.leaf.proofs.after_moof_header.Tie as tie
@@ -22,7 +23,7 @@ returns c =
     ∙ sym (header-bad (moofBoxes id (a .end)) wrapMoof (a .seen) (a .n) (a .h) f (a .h .pos) (moof-placed (a .end) (a .h)) (λ e. c .if1 .taken (c .before .size-flaw .ensures ∙ sym (moof-flaw (a .end) (a .h)) ∙ e)))
 
 begin-moof-requires : tie.Need-begin-moof-requires
-begin-moof-requires c κs = omega (arith, size-within (c .before .before .args .end) (c .before .before .args .h) (sym (c .before .size-flaw .ensures) ∙ c .if1 .left))
+begin-moof-requires c κs = omega (arith, size-clean (c .before .before .args .end) (c .before .before .args .h) (sym (c .before .size-flaw .ensures) ∙ c .if1 .left) .1)
 
 after-moof-body-requires : tie.Need-after-moof-body-requires
 after-moof-body-requires c κs = search needs
