@@ -1,5 +1,5 @@
 -- A header that was read in a list of boxes, with a fault and without; the faults of a leaf's headers, and what a leaf lacks.
-use Prim.Native.Nat.{ℕ, _%_, _≤_}
+use Prim.Native.Nat.{ℕ, _≤_}
 use mathlib.Core.Path.{_≡_, refl, ap, sym, _∙_}
 use mathlib.Core.List.{[], _++_, append-nil}
 use mathlib.Core.Bool.{Bool, true, false, not, _&&_, _||_}
@@ -18,9 +18,9 @@ use Rattle.machine.specs.declared.Header.{Header}
 use Rattle.machine.proofs.Kept.{Each, each-none, each-shows, each-append}
 use Rattle.machine.proofs.Lowest.{AtMostEach}
 use Rattle.header.specs.Flaws.{flawOf}
-use Rattle.header.proofs.Flaws.{Placed, lowest-first, flaw-shows, flaw-one, at-most-shows, at-most-append, flaw-none, flaw-some, size-then, size-placed}
+use Rattle.header.proofs.Flaws.{Placed, flaw-shows, flaw-one, at-most-shows, at-most-append, flaw-none, flaw-some, size-then, size-placed, lengths-then, lengths-least, lengths-placed}
 use Rattle.state.specs.Flow.{Flow, Left, left}
-use Rattle.state.specs.Rows.{is, bodyLength, noRoom, topLengths, leafFaults}
+use Rattle.state.specs.Rows.{is, noRoom, topLengths, leafFaults}
 use Rattle.state.specs.Leaf.{leafLacks, leafNext, leafBoxes, wrapLeaf}
 use Rattle.state.specs.declared.Slot.{Slot}
 use Rattle.state.specs.declared.LeafSo.{LeafSo}
@@ -83,42 +83,33 @@ module _ (slot : Slot) (so : LeafSo) (f : Flow) (full : Bool) (room : RoomIs ful
       ∙ ap (λ (t : Bool). unless (shows t 15 (slot .pos) ++ shows (not (so .seen .any)) 19 (slot .pos)) (λ x. bad x (left f)) (done (so .seen) f)) room
       ∙ unless-lacks full (so .seen .any) (slot .pos) (λ x. bad x (left f)) (done (so .seen) f)
 
--- The faults of a header in a leaf, in the order of their numbers.
-module _ (a b c d e : Bool) (p q : ℕ) where
-  from : (m : ℕ) → m ≤ 7 → AtMostEach m (shows c 7 p ++ (shows d 9 p ++ shows e 15 q))
+-- The faults of a header in a leaf after those of its length, in the order of their numbers.
+module _ (a b c : Bool) (p q : ℕ) where
+  from : (m : ℕ) → m ≤ 7 → AtMostEach m (shows a 7 p ++ (shows b 9 p ++ shows c 15 q))
   from m h =
-      at-most-append m (shows c 7 p) _ (at-most-shows m c 7 p (omega arith)) (at-most-append m (shows d 9 p) _ (at-most-shows m d 9 p (omega arith)) (at-most-shows m e 15 q (omega arith)))
+      at-most-append m (shows a 7 p) _ (at-most-shows m a 7 p (omega arith)) (at-most-append m (shows b 9 p) _ (at-most-shows m b 9 p (omega arith)) (at-most-shows m c 15 q (omega arith)))
 
-  all-from : AtMostEach 5 ((shows a 6 p ++ shows b 6 p) ++ (shows c 7 p ++ (shows d 9 p ++ shows e 15 q)))
-  all-from =
-      at-most-append 5 (shows a 6 p ++ shows b 6 p) _ (at-most-append 5 (shows a 6 p) _ (at-most-shows 5 a 6 p (omega arith)) (at-most-shows 5 b 6 p (omega arith))) (from 5 (omega arith))
-
-  after-lengths : flawOf (shows c 7 p ++ (shows d 9 p ++ shows e 15 q)) ≡ pick c 7 (pick d 9 (pick e 15 0))
+  after-lengths : flawOf (shows a 7 p ++ (shows b 9 p ++ shows c 15 q)) ≡ pick a 7 (pick b 9 (pick c 15 0))
   after-lengths =
-      flaw-shows c 7 p _ (at-most-append 7 (shows d 9 p) _ (at-most-shows 7 d 9 p (omega arith)) (at-most-shows 7 e 15 q (omega arith)))
-      ∙ ap (λ (m : ℕ). pick c 7 m) (flaw-shows d 9 p _ (at-most-shows 9 e 15 q (omega arith)) ∙ ap (λ (m : ℕ). pick d 9 m) (flaw-one e 15 q))
-
-in-order : (a b c d e : Bool) (p q : ℕ) →
-    flawOf ((shows a 6 p ++ shows b 6 p) ++ (shows c 7 p ++ (shows d 9 p ++ shows e 15 q))) ≡ pick (a || b) 6 (pick c 7 (pick d 9 (pick e 15 0)))
-unfolding flawOf shows pick
-in-order true true c d e p q = ap (λ (x : Refusal). x .number) (lowest-first (refusal 6 p) _ (omega arith, from true true c d e p q 6 (omega arith)))
-in-order true false c d e p q = ap (λ (x : Refusal). x .number) (lowest-first (refusal 6 p) _ (from true false c d e p q 6 (omega arith)))
-in-order false true c d e p q = ap (λ (x : Refusal). x .number) (lowest-first (refusal 6 p) _ (from false true c d e p q 6 (omega arith)))
-in-order false false c d e p q = after-lengths false false c d e p q
+      flaw-shows a 7 p _ (at-most-append 7 (shows b 9 p) _ (at-most-shows 7 b 9 p (omega arith)) (at-most-shows 7 c 15 q (omega arith)))
+      ∙ ap (λ (m : ℕ). pick a 7 m) (flaw-shows b 9 p _ (at-most-shows 9 c 15 q (omega arith)) ∙ ap (λ (m : ℕ). pick b 9 m) (flaw-one c 15 q))
 
 module _ (pos : ℕ) (had : Bool) (h : Header) (f : Flow) where
-  -- the lowest number that a header shows in a leaf
+  -- the lowest number that a header shows in a leaf: by its length, and else by its type and its place
   pub leaf-flaws : (full : Bool) → RoomIs full f → flawOf (leafFaults pos had h f) ≡
-      pick (is h styp && (ltb (bodyLength h) 8 || not (eqb (bodyLength h % 4) 0)) || is h sidx && ltb (bodyLength h) 24) 6
-      (pick (is h styp) 7 (pick (is h sidx || is h mdat && not had) 9 (pick (eqb (h .pos) pos && full) 15 0)))
-  unfolding leafFaults topLengths
+      pick (eqb (flawOf (topLengths h)) 0) (pick (is h styp) 7 (pick (is h sidx || is h mdat && not had) 9 (pick (eqb (h .pos) pos && full) 15 0))) (flawOf (topLengths h))
+  unfolding leafFaults
   leaf-flaws full room =
-      in-order (is h styp && (ltb (bodyLength h) 8 || not (eqb (bodyLength h % 4) 0))) (is h sidx && ltb (bodyLength h) 24) (is h styp) (is h sidx || is h mdat && not had) (eqb (h .pos) pos && noRoom (f .leaves) (f .table)) (h .pos) pos
-      ∙ ap (λ (t : Bool). pick (is h styp && (ltb (bodyLength h) 8 || not (eqb (bodyLength h % 4) 0)) || is h sidx && ltb (bodyLength h) 24) 6 (pick (is h styp) 7 (pick (is h sidx || is h mdat && not had) 9 (pick (eqb (h .pos) pos && t) 15 0)))) room
+      lengths-then h _ (from (is h styp) (is h sidx || is h mdat && not had) (eqb (h .pos) pos && noRoom (f .leaves) (f .table)) (h .pos) pos 6 (omega arith))
+      ∙ ap (λ (m : ℕ). pick (eqb (flawOf (topLengths h)) 0) m (flawOf (topLengths h)))
+      (after-lengths (is h styp) (is h sidx || is h mdat && not had) (eqb (h .pos) pos && noRoom (f .leaves) (f .table)) (h .pos) pos
+      ∙ ap (λ (t : Bool). pick (is h styp) 7 (pick (is h sidx || is h mdat && not had) 9 (pick (eqb (h .pos) pos && t) 15 0))) room)
 
   leaf-from : AtMostEach 5 (leafFaults pos had h f)
-  unfolding leafFaults topLengths
-  leaf-from = all-from (is h styp && (ltb (bodyLength h) 8 || not (eqb (bodyLength h % 4) 0))) (is h sidx && ltb (bodyLength h) 24) (is h styp) (is h sidx || is h mdat && not had) (eqb (h .pos) pos && noRoom (f .leaves) (f .table)) (h .pos) pos
+  unfolding leafFaults
+  leaf-from =
+      at-most-append 5 (topLengths h) _ (lengths-least 5 h (omega arith))
+      (from (is h styp) (is h sidx || is h mdat && not had) (eqb (h .pos) pos && noRoom (f .leaves) (f .table)) (h .pos) pos 5 (omega arith))
 
   -- they are tested after those of its size
   sizes-first : (end : ℕ) → flawOf (sizeFaults end h ++ leafFaults pos had h f) ≡ pick (eqb (flawOf (sizeFaults end h)) 0) (flawOf (leafFaults pos had h f)) (flawOf (sizeFaults end h))
@@ -139,16 +130,11 @@ beyond-placed p q false u e = tt
 
 module _ (end pos : ℕ) (had : Bool) (h : Header) (f : Flow) where
   pub leaf-placed : Each (Placed (h .pos)) (sizeFaults end h ++ leafFaults pos had h f)
-  unfolding leafFaults topLengths
+  unfolding leafFaults
   leaf-placed =
       let P : Refusal → Type 0 = Placed (h .pos) in
       each-append P _ _ (size-placed end h)
-      (each-append P _ _ (each-append P _ _ (each-shows P _ 6 (h .pos) (refl, omega arith)) (each-shows P _ 6 (h .pos) (refl, omega arith)))
+      (each-append P _ _ (lengths-placed h)
       (each-append P _ _ (each-shows P _ 7 (h .pos) (refl, omega arith))
       (each-append P _ _ (each-shows P _ 9 (h .pos) (refl, omega arith))
       (beyond-placed (h .pos) pos (eqb (h .pos) pos) (noRoom (f .leaves) (f .table)) (λ k. sym (eqb-true (h .pos) pos k))))))
-
--- a test that is not joined by another
-pub or-false : (t : Bool) → t || false ≡ t
-or-false true = refl
-or-false false = refl

@@ -3,6 +3,7 @@
 use header::HeadSo;
 use header::HeadStep;
 use header::head_byte;
+use header::length_flaw;
 use header::refused_head;
 use header::size_flaw;
 use machine::Head;
@@ -19,19 +20,19 @@ use state::Span;
 use track::TrackStep;
 use track::traf_begin;
 use track::traf_byte;
-ghost use Prim.Native.Nat.{ℕ, _+_, _%_, _<_, _≤_};
+ghost use Prim.Native.Nat.{ℕ, _+_, _<_};
 ghost use mathlib.Core.Path.{_≡_};
 ghost use mathlib.Core.Bool.{not, _&&_, _||_};
 ghost use mathlib.Core.List.{[]};
-ghost use lib.Dec.{eqb, ltb};
+ghost use lib.Dec.{eqb};
 ghost use Rattle.basics.specs.Choose.{pick};
-ghost use Rattle.segment.specs.Constants.{limit, timeLimit, styp, sidx, mdat};
+ghost use Rattle.segment.specs.Constants.{limit, timeLimit, sidx, mdat};
 ghost use Rattle.machine.specs.Faults.{lowest};
 ghost use Rattle.machine.specs.Lists.{goOn};
 ghost use Rattle.header.specs.Views.{viewHead};
 ghost use Rattle.header.specs.Flaws.{flawOf};
 ghost use Rattle.state.specs.Flow.{Flow, left};
-ghost use Rattle.state.specs.Rows.{is, bodyLength, noRoom, leafFaults};
+ghost use Rattle.state.specs.Rows.{noRoom, leafFaults};
 ghost use Rattle.state.specs.Leaf.{seenNow, skipMoof, liftTraf, beginMoof, stepMoofBody, moofNext, moofBoxes, wrapMoof, stepMoof, skipLeaf, liftMoof, beginLeaf, stepLeafBody, leafNow, leafLacks, leafNext, leafBoxes, wrapLeaf, stepLeaf};
 ghost use Rattle.state.specs.Ranges.{Within, moofBodyBounds, moofBounds, leafBodyBounds, leafBounds};
 ghost use Rattle.track.specs.Track.{viewTrack};
@@ -318,24 +319,6 @@ fn after_leaf_body(slot: Slot, so: LeafSo, full: bool, r: LeafBodyStep, n: u64) 
     }
 }
 
-// Whether a top-level box has a length that it cannot have, by its header.
-fn wrong_length(h: Header) -> bool
-    requires { ⌜ h .head ≤ h .size ⌝ }
-    ensures { λ r. ⌜ r ≡ (is h styp && (ltb (bodyLength h) 8 || not (eqb (bodyLength h % 4) 0)) || is h sidx && ltb (bodyLength h) 24) ⌝ }
-{
-    let body = h.size - h.head;
-    if h.kind == STYP {
-        if body < 8 {
-            return true;
-        }
-        return body % 4 != 0;
-    }
-    if h.kind == SIDX {
-        return body < 24;
-    }
-    false
-}
-
 // Whether a box of this type may not stand here in a leaf: a `sidx`, or an `mdat` before the leaf's `moof`.
 fn misplaced(kind: u64, had: bool) -> bool
     ensures { λ r. ⌜ r ≡ (eqb kind sidx || eqb kind mdat && not had) ⌝ }
@@ -351,11 +334,11 @@ fn misplaced(kind: u64, had: bool) -> bool
 
 // The lowest number of the faults that a header shows in a leaf, or 0.
 fn leaf_flaw(pos: u64, had: bool, full: bool, h: Header) -> u64
-    requires { ⌜ h .head ≤ h .size ⌝ }
     ensures { λ r. ⌜ ((f : Flow) → RoomIs full f → r ≡ flawOf (leafFaults pos had h f)) ⌝ }
 {
-    if wrong_length(h) {
-        return 6;
+    let length = length_flaw(h);
+    if length != 0 {
+        return length;
     }
     if h.kind == STYP {
         return 7;

@@ -31,7 +31,7 @@ returns c =
     ∙ sym (header-bad (leafBoxes id (a .slot)) wrapLeaf (a .so) (a .n) (a .h) f (a .h .pos) (leaf-placed (a .slot .end) (a .slot .pos) (a .so .moof) (a .h) f) (λ k. c .before .if1 .taken ((c .before .before .size-flaw .ensures ∙ sym (size-shown (a .slot .pos) (a .so .moof) (a .h) f (a .slot .end) (λ k. c .before .if1 .taken (c .before .before .size-flaw .ensures ∙ k)))) ∙ k)))
 
 leaf-flaw-requires : tie.Need-leaf-flaw-requires
-leaf-flaw-requires c κs = size-clean (c .before .before .args .slot .end) (c .before .before .args .h) (sym (c .before .size-flaw .ensures) ∙ c .if1 .left) .0
+leaf-flaw-requires c κs = search needs
 
 worse-in-leaf-requires-2 : tie.Need-worse-in-leaf-requires-2
 worse-in-leaf-requires-2 c κs = search needs
