@@ -4,7 +4,6 @@ use mathlib.Core.Path.{_≡_, refl, sym, _∙_}
 use mathlib.Core.Bool.{Bool, true, false}
 use mathlib.Core.Logic.{_⊎_, inl, inr}
 use native.Mathlib.Omega.{arith}
-use native.Mathlib.Nat.{pow-le-pow-right}
 use lib.Dec.{eqb, ltb, leb}
 use borrow.Author.Tests.{lt-ltb, le-ltb, le-leb, lt-leb, eq-eqb, ne-eqb, eqb-true, eqb-false}
 use Rattle.basics.proofs.Picks.{lt-or-ge}
@@ -20,6 +19,7 @@ use Rattle.state.specs.declared.Sidx.the-variants as sidx
 use Rattle.state.specs.Sidx.{partOf, wordPlace, bytePlace, wideMore}
 use Rattle.state.specs.Ranges.{Within, spelled, indexMost, sidxBounds, sizesRead, durationsRead}
 use Rattle.state.proofs.RangeTests.{spelled-last}
+use Rattle.header.proofs.Steps.{spelled-small}
 use Rattle.index.specs.declared.Where.{Where}
 use Rattle.index.specs.declared.Where.the-variants as places
 use Rattle.index.specs.Views.{placeOf, Shallow, Summed}
@@ -72,28 +72,21 @@ index-most part.Offset wide = wide-most wide
 index-most part.Reserved wide = omega arith
 index-most part.Count wide = omega arith
 
-spelled-fits : (most more acc b : ℕ) → most ≤ 7 → b < 256 → Within (spelled most more acc) → acc * 256 + b < timeLimit
-spelled-fits most more acc b h hb w =
-    let k : 256 ^ (most - more) ≤ 256 ^ 7 = pow-le-pow-right {n = 256} (omega arith) {i = most - more} {j = 7} (omega arith) in
-    let l : acc < 256 ^ (most - more) = w .1 .0 in
-    let m : acc < 72057594037927936 = omega arith in
-    omega arith
-
--- A number before the entries.
-module _ (i : IndexPart) (d : Draft) (more acc b : ℕ) (hb : b < 256) (w : Within (sidxBounds (sidx.Field i d more acc))) where
+-- A number before the entries: what the bytes before its last spell, and what it is once it is read.
+module _ (i : IndexPart) (d : Draft) (more acc : ℕ) (w : Within (sidxBounds (sidx.Field i d more acc))) where
   field-spelled : Within (spelled (indexMost i (d .wide)) more acc)
   unfolding sidxBounds
   field-spelled = w .1 .1 .1
 
-  pub field-fits : acc * 256 + b < timeLimit
-  field-fits = spelled-fits (indexMost i (d .wide)) more acc b (index-most i (d .wide)) hb field-spelled
+  pub field-small : acc < 72057594037927936
+  field-small = spelled-small (indexMost i (d .wide)) more acc (index-most i (d .wide)) field-spelled
 
-  pub field-ended : (v : ℕ) → v ≡ acc * 256 + b → more ≡ 0 → v < 256 ^ suc (indexMost i (d .wide))
-  field-ended v ev em = rw ev (spelled-last (indexMost i (d .wide)) acc b hb (rw em at field-spelled))
+  pub field-ended : (b : ℕ) → b < 256 → (v : ℕ) → v ≡ acc * 256 + b → more ≡ 0 → v < 256 ^ suc (indexMost i (d .wide))
+  field-ended b hb v ev em = rw ev (spelled-last (indexMost i (d .wide)) acc b hb (rw em at field-spelled))
 
 -- A number of an entry.
-module _ {s : Sidx} {i : EntryPart} {d : Draft} {sums : Sums} {more acc : ℕ} (b : ℕ)
-    (e : s ≡ sidx.Entry i d sums more acc) (hb : b < 256) (w : Within (sidxBounds s)) where
+module _ {s : Sidx} {i : EntryPart} {d : Draft} {sums : Sums} {more acc : ℕ}
+    (e : s ≡ sidx.Entry i d sums more acc) (w : Within (sidxBounds s)) where
   entry-within : Within (sidxBounds (sidx.Entry i d sums more acc))
   entry-within = rw e at w
 
@@ -101,14 +94,14 @@ module _ {s : Sidx} {i : EntryPart} {d : Draft} {sums : Sums} {more acc : ℕ} (
   unfolding sidxBounds
   entry-spelled = entry-within .1 .1 .1 .1 .1 .1 .1
 
-  pub entry-fits : acc * 256 + b < timeLimit
-  entry-fits = spelled-fits 3 more acc b (omega arith) hb entry-spelled
+  pub entry-small : acc < 72057594037927936
+  entry-small = spelled-small 3 more acc (omega arith) entry-spelled
 
   pub entry-more : more ≤ 3
   entry-more = entry-spelled .0
 
-  pub entry-ended : (v : ℕ) → v ≡ acc * 256 + b → more ≡ 0 → v < wordLimit
-  entry-ended v ev em = rw ev (spelled-last 3 acc b hb (rw em at entry-spelled))
+  pub entry-ended : (b : ℕ) → b < 256 → (v : ℕ) → v ≡ acc * 256 + b → more ≡ 0 → v < wordLimit
+  entry-ended b hb v ev em = rw ev (spelled-last 3 acc b hb (rw em at entry-spelled))
 
 sums-fit : (i : EntryPart) (d : Draft) (sums : Sums) (more acc : ℕ) → Within (sidxBounds (sidx.Entry i d sums more acc)) → Summed sums
 unfolding sidxBounds sizesRead durationsRead

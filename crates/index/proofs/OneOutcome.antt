@@ -7,7 +7,8 @@ use Rattle.machine.specs.Run.{Sub, go, done, bad}
 use Rattle.state.specs.declared.Sidx.{Sidx}
 use Rattle.state.specs.declared.Index.{Index}
 use Rattle.state.specs.Flow.{Flow, Left}
-use Rattle.index.specs.Views.{viewIndex, flowOf}
+use Rattle.state.specs.Calls.{flowOf}
+use Rattle.index.specs.Views.{viewIndex}
 use Rattle.index.specs.declared.IndexStep.{IndexStep}
 use Rattle.index.specs.declared.IndexStep.the-variants as steps
 use Rattle.index.specs.declared.IndexSo.the-variants as so

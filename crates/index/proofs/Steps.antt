@@ -15,7 +15,7 @@ use Rattle.state.specs.declared.Sidx.{Sidx}
 use Rattle.state.specs.declared.Sidx.the-variants as sidx
 use Rattle.state.specs.Flow.{Flow}
 use Rattle.state.specs.Sidx.{Place, fieldEnds, entryEnds, bytePlace, stepSidx}
-use Rattle.index.specs.Views.{flowOf}
+use Rattle.state.specs.Calls.{flowOf}
 
 module _ (p : Place) (span : Span) (n b v : ℕ) where
   -- a number before the entries

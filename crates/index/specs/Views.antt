@@ -1,6 +1,5 @@
 -- What the code's answers say in the definition's words.
 use Prim.Native.Nat.{ℕ, _*_, _≤_, _<_}
-use mathlib.Core.List.{List}
 use Rattle.segment.specs.Constants.{wordLimit, typeBit, mostEntries}
 use Rattle.machine.specs.Faults.{refusal}
 use Rattle.machine.specs.Run.{Sub, go, done, bad}
@@ -30,9 +29,6 @@ viewIndex f (steps.Bad x) = bad x (left f)
 abbrev pub refusalIndex : IndexStep → Refusal
 refusalIndex (steps.Taken s) = refusal 0 0
 refusalIndex (steps.Bad x) = x
-
-abbrev pub flowOf : ℕ → ℕ → ℕ → List ℕ → List ℕ → Flow
-flowOf leaves at last work table = record { leaves = leaves; now = at; last = last; work = work; table = table }
 
 -- what code needs to stay inside its numbers: an inner index is on level 4 at the most,
 abbrev pub Shallow : Where → Type 0

@@ -21,7 +21,8 @@ ghost use Rattle.machine.specs.Faults.{shows, unless};
 ghost use Rattle.state.specs.Flow.{Flow, left};
 ghost use Rattle.state.specs.Sidx.{Place, partOf, wideMore, closeSidx, fieldEnds, entryEnds, wordPlace, bytePlace, stepSidx};
 ghost use Rattle.state.specs.Ranges.{Within, sidxBounds, indexMost};
-ghost use Rattle.index.specs.Views.{placeOf, viewIndex, refusalIndex, flowOf, Shallow, Timely, Summed};
+ghost use Rattle.state.specs.Calls.{flowOf};
+ghost use Rattle.index.specs.Views.{placeOf, viewIndex, refusalIndex, Shallow, Timely, Summed};
 
 const LIMIT: u64 = 268435456;
 
@@ -470,14 +471,6 @@ fn byte_place(p: Where, part: EntryPart, sums: Sums, more: u64) -> u64
     part_of(p) + ENTRY_BYTES * sums.next + word_place(part) + (3 - more)
 }
 
-// A number with one more byte.
-fn spelled_on(acc: u64, b: u8) -> u64
-    requires { ⌜ acc * 256 + b < timeLimit ⌝ }
-    ensures { λ r. ⌜ r ≡ acc * 256 + b ⌝ }
-{
-    acc * 256 + (b as u64)
-}
-
 // One byte of a number before the entries.
 fn field_byte(
     p: Where,
@@ -497,7 +490,7 @@ fn field_byte(
         ≡ stepSidx (placeOf p) span (Sidx.Field part draft more acc) (flowOf leaves at last work table) n b)
         ⌝ }
 {
-    let v = spelled_on(acc, b);
+    let v = header::spelled(acc, b);
     if more == 0 {
         return field_end(p, span, part, draft, v, at, n + 1);
     }
@@ -537,7 +530,7 @@ pub fn index_byte(
         } => {
             let i = byte_place(p, part, sums, more) as usize;
             work[i] = b;
-            let v = spelled_on(acc, b);
+            let v = header::spelled(acc, b);
             if more == 0 {
                 return entry_end(p, span, part, draft, sums, v, at, n + 1);
             }

@@ -1,4 +1,4 @@
-use Rattle.index.specs.Views.{flowOf}
+use Rattle.state.specs.Calls.{flowOf}
 use borrow.Author.Needs.{needs}
 use Rattle.index.proofs.entry_end.Statement.{statement}
 use Rattle.index.proofs.entry_end.Tie as tie

@@ -1,28 +1,29 @@
 use mathlib.Core.Path.{_∙_}
 use native.Mathlib.Omega.{arith}
-use Rattle.index.specs.Views.{placeOf, flowOf}
-use Rattle.index.proofs.Numbers.{field-fits, field-ended}
+use Rattle.state.specs.Calls.{flowOf}
+use Rattle.index.specs.Views.{placeOf}
+use Rattle.index.proofs.Numbers.{field-small, field-ended}
 use Rattle.index.proofs.Steps.{field-last, field-on}
 use borrow.Author.Needs.{needs}
 use Rattle.index.proofs.field_byte.Statement.{statement}
 use Rattle.index.proofs.field_byte.Tie as tie
 
-spelled-on-requires : tie.Need-spelled-on-requires
-spelled-on-requires c κs = let a = c .args in field-fits (a .part) (a .draft) (a .more) (a .acc) (a .b) (search needs) (c .pre .0)
+spelled-requires : tie.Need-spelled-requires
+spelled-requires c κs = let a = c .args in field-small (a .part) (a .draft) (a .more) (a .acc) (c .pre .0)
 
 add-field-end : tie.Need-add-field-end
 add-field-end c = search needs
 
 field-end-requires : tie.Need-field-end-requires
 field-end-requires c κs = let a = c .before .before .args in (
-  field-ended (a .part) (a .draft) (a .more) (a .acc) (a .b) (search needs) (c .before .before .pre .0) _ (c .before .spelled-on .ensures) (c .if1 .taken),
+  field-ended (a .part) (a .draft) (a .more) (a .acc) (c .before .before .pre .0) (a .b) (search needs) _ (c .before .spelled .ensures) (c .if1 .taken),
   omega arith,
 )
 
 returns : tie.Need-returns
 returns c = let a = c .before .before .before .args in λ leaves last work table.
     c .field-end .ensures leaves last work table
-    ∙ field-last (placeOf (a .p)) (a .span) (a .n) (a .b) _ (a .part) (a .draft) (a .more) (a .acc) (flowOf leaves (a .at) last work table) (c .before .before .spelled-on .ensures) (c .before .if1 .taken)
+    ∙ field-last (placeOf (a .p)) (a .span) (a .n) (a .b) _ (a .part) (a .draft) (a .more) (a .acc) (flowOf leaves (a .at) last work table) (c .before .before .spelled .ensures) (c .before .if1 .taken)
 
 sub-next-field : tie.Need-sub-next-field
 sub-next-field c = search needs
@@ -33,13 +34,13 @@ next-field-requires c κs = search needs
 returns-2 : tie.Need-returns-2
 returns-2 c = let a = c .before .before .before .args in λ leaves last work table.
     rw (c .next-field .ensures)
-    (field-on (placeOf (a .p)) (a .span) (a .n) (a .b) _ (a .part) (a .draft) (a .more) (a .acc) (flowOf leaves (a .at) last work table) (c .before .before .spelled-on .ensures) (c .before .if1 .left))
+    (field-on (placeOf (a .p)) (a .span) (a .n) (a .b) _ (a .part) (a .draft) (a .more) (a .acc) (flowOf leaves (a .at) last work table) (c .before .before .spelled .ensures) (c .before .if1 .left))
 
 pub field-byte-spec : {M : Type 1} → statement M
 field-byte-spec =
     tie.close
     (tie.spec
-    spelled-on-requires
+    spelled-requires
     add-field-end
     field-end-requires
     returns

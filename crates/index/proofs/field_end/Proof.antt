@@ -1,6 +1,6 @@
 use Rattle.state.specs.Sidx.{fieldEnds}
 use Rattle.state.specs.Ranges.{indexMost}
-use Rattle.index.specs.Views.{flowOf}
+use Rattle.state.specs.Calls.{flowOf}
 use borrow.Author.Needs.{needs}
 use Rattle.index.proofs.field_end.Statement.{statement}
 use Rattle.index.proofs.field_end.Tie as tie

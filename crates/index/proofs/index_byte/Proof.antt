@@ -1,6 +1,6 @@
 use mathlib.Core.Path.{_∙_}
 use native.Mathlib.Omega.{arith}
-use Rattle.index.proofs.Numbers.{place-fits, entry-fits, entry-more, entry-ended, entry-summed}
+use Rattle.index.proofs.Numbers.{place-fits, entry-small, entry-more, entry-ended, entry-summed}
 use Rattle.index.proofs.Steps.{entry-last, entry-on}
 use borrow.Author.Needs.{needs}
 use Rattle.index.proofs.index_byte.Statement.{statement}
@@ -19,7 +19,7 @@ byte-place-requires : tie.Need-byte-place-requires
 byte-place-requires c κs = (
   c .before .before .before .before .pre .0,
   entry-summed (c .before .s2 .given .1) (c .before .before .before .before .pre .2),
-  entry-more (c .before .before .before .before .args .b) (c .before .s2 .given .1) (search needs) (c .before .before .before .before .pre .2),
+  entry-more (c .before .s2 .given .1) (c .before .before .before .before .pre .2),
 )
 
 slice-write-work : tie.Need-slice-write-work
@@ -30,10 +30,8 @@ slice-write-work c =
           (c .before .before .before .before .before .pre .2) (c .before .before .before .before .before .pre .0) (c .byte-place .ensures),
     )
 
-spelled-on-requires : tie.Need-spelled-on-requires
-spelled-on-requires c κs =
-    entry-fits (c .before .before .before .before .before .args .b) (c .before .before .s2 .given .1) (search needs)
-    (c .before .before .before .before .before .pre .2)
+spelled-requires : tie.Need-spelled-requires
+spelled-requires c κs = entry-small (c .before .before .s2 .given .1) (c .before .before .before .before .before .pre .2)
 
 add-entry-end : tie.Need-add-entry-end
 add-entry-end c = search needs
@@ -42,7 +40,7 @@ entry-end-requires : tie.Need-entry-end-requires
 entry-end-requires c κs = (
   c .before .before .before .before .before .before .before .pre .1,
   entry-summed (c .before .before .before .before .s2 .given .1) (c .before .before .before .before .before .before .before .pre .2),
-  entry-ended (c .before .before .before .before .before .before .before .args .b) (c .before .before .before .before .s2 .given .1) (search needs) (c .before .before .before .before .before .before .before .pre .2) _ (c .before .spelled-on .ensures) (c .if1 .taken),
+  entry-ended (c .before .before .before .before .s2 .given .1) (c .before .before .before .before .before .before .before .pre .2) (c .before .before .before .before .before .before .before .args .b) (search needs) _ (c .before .spelled .ensures) (c .if1 .taken),
   omega arith,
 )
 
@@ -52,7 +50,7 @@ same-length c = search needs
 returns : tie.Need-returns
 returns c = λ leaves last table.
     c .entry-end .ensures leaves last _ table ∙ entry-last _ _ _ _ _ _ _ _ _ _ _ (c .before .before .before .before .before .s2 .given .1)
-    (c .before .before .spelled-on .ensures) (rw (c .before .before .before .byte-place .ensures)) (c .before .if1 .taken)
+    (c .before .before .spelled .ensures) (rw (c .before .before .before .byte-place .ensures)) (c .before .if1 .taken)
 
 sub-next-entry : tie.Need-sub-next-entry
 sub-next-entry c = search needs
@@ -69,7 +67,7 @@ same-length-2 c = search needs
 returns-3 : tie.Need-returns-3
 returns-3 c = λ leaves last table.
     rw (c .next-entry .ensures)
-    (entry-on _ _ _ _ _ _ _ _ _ _ _ (c .before .before .before .before .before .s2 .given .1) (c .before .before .spelled-on .ensures)
+    (entry-on _ _ _ _ _ _ _ _ _ _ _ (c .before .before .before .before .before .s2 .given .1) (c .before .before .spelled .ensures)
     (rw (c .before .before .before .byte-place .ensures)) (c .before .if1 .left))
 
 pub index-byte-spec : {M : Type 1} → statement M
@@ -81,7 +79,7 @@ index-byte-spec =
     enum-known-s-2
     byte-place-requires
     slice-write-work
-    spelled-on-requires
+    spelled-requires
     add-entry-end
     entry-end-requires
     same-length
