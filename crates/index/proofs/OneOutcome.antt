@@ -1,4 +1,4 @@
--- The contracts of the functions that other crates call, as the check reads them: two outcomes that one allows coincide, and one that asks nothing says so.
+-- The contracts of the functions that other crates call, as the check reads them: two outcomes that one allows coincide, and those that ask nothing say so.
 use Prim.Native.Nat.{ℕ}
 use mathlib.Core.Path.{_≡_, refl, sym, ap, _∙_}
 use mathlib.Core.List.{List, []}
@@ -14,6 +14,8 @@ use Rattle.index.specs.declared.IndexStep.the-variants as steps
 use Rattle.index.specs.declared.IndexSo.the-variants as so
 use Rattle.index.proofs.refused_index.Kinds as refused-kinds
 use Rattle.index.proofs.refused_index.Reads as refused-stated
+use Rattle.index.proofs.index_begin.Kinds as begin-kinds
+use Rattle.index.proofs.index_begin.Reads as begin-stated
 use Rattle.index.proofs.index_byte.Kinds as byte-kinds
 use Rattle.index.proofs.index_byte.Reads as byte-stated
 
@@ -35,6 +37,13 @@ index-seen f f' r r' e = sym (seen-index f r) ∙ (ap seenIndex e ∙ seen-index
 -- of one answer to a byte: one refusal
 pub refused-index-once : OneOutcome 0 refused-kinds.ps refused-kinds.r refused-stated.Pre refused-stated.Post
 refused-index-once = record {
+  asks-nothing = λ κs given. tt;
+  outcomes-coincide = λ κs given r r' left left' p q. (p ∙ sym q, refl);
+}
+
+-- of nothing: one index to begin with
+pub index-begin-once : OneOutcome 0 begin-kinds.ps begin-kinds.r begin-stated.Pre begin-stated.Post
+index-begin-once = record {
   asks-nothing = λ κs given. tt;
   outcomes-coincide = λ κs given r r' left left' p q. (p ∙ sym q, refl);
 }

@@ -19,7 +19,7 @@ ghost use Rattle.segment.specs.Constants.{limit, timeLimit, wordLimit, workByte
 ghost use Rattle.machine.specs.Run.{bad};
 ghost use Rattle.machine.specs.Faults.{shows, unless};
 ghost use Rattle.state.specs.Flow.{Flow, left};
-ghost use Rattle.state.specs.Sidx.{Place, partOf, wideMore, closeSidx, fieldEnds, entryEnds, wordPlace, bytePlace, stepSidx};
+ghost use Rattle.state.specs.Sidx.{Place, partOf, wideMore, closeSidx, fieldEnds, entryEnds, wordPlace, bytePlace, sidxStart, stepSidx};
 ghost use Rattle.state.specs.Ranges.{Within, sidxBounds, indexMost};
 ghost use Rattle.state.specs.Calls.{flowOf};
 ghost use Rattle.index.specs.Views.{placeOf, viewIndex, refusalIndex, Shallow, Timely, Summed};
@@ -469,6 +469,25 @@ fn byte_place(p: Where, part: EntryPart, sums: Sums, more: u64) -> u64
     ensures { λ r. ⌜ r ≡ bytePlace (placeOf p) part sums more ⌝ }
 {
     part_of(p) + ENTRY_BYTES * sums.next + word_place(part) + (3 - more)
+}
+
+// An index none of whose body is read: its version comes first.
+pub fn index_begin() -> Sidx
+    ensures { λ r. ⌜ r ≡ sidxStart ⌝ }
+{
+    let draft = Draft {
+        wide: false,
+        id: 0,
+        scale: 0,
+        time: 0,
+        offset: 0,
+    };
+    Sidx::Field {
+        part: IndexPart::Version,
+        draft,
+        more: 0,
+        acc: 0,
+    }
 }
 
 // One byte of a number before the entries.

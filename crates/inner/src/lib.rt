@@ -8,7 +8,6 @@ ghost use Rattle.machine.specs.Heads.{sizeFaults};
 ghost use Rattle.machine.specs.Lists.{headed, stepBox};
 ghost use Rattle.state.specs.Flow.{Flow};
 ghost use Rattle.state.specs.Rows.{innerFaults};
-ghost use Rattle.state.specs.Sidx.{sidxStart};
 ghost use Rattle.state.specs.Stages.{innerKind};
 ghost use Rattle.state.specs.Ranges.{Within};
 ghost use Rattle.state.specs.Calls.{flowOf};
@@ -23,11 +22,8 @@ use index::IndexStep;
 use index::Where;
 use machine::Header;
 use machine::Refusal;
-use state::Draft;
 use state::Index;
-use state::IndexPart;
 use state::InnerBox;
-use state::Sidx;
 use state::Slot;
 use state::Span;
 use state::Top;
@@ -71,26 +67,6 @@ fn inner_flaw(end: u64, depth: u64, h: Header) -> u64
     0
 }
 
-// The body of an inner index begins.
-fn index_start(span: Span) -> InnerStep
-    ensures { λ r. ⌜ r ≡ InnerStep.Go (InnerBox.Body span sidxStart) ⌝ }
-{
-    let draft = Draft {
-        wide: false,
-        id: 0,
-        scale: 0,
-        time: 0,
-        offset: 0,
-    };
-    let start = Sidx::Field {
-        part: IndexPart::Version,
-        draft,
-        more: 0,
-        acc: 0,
-    };
-    InnerStep::Go(InnerBox::Body(span, start))
-}
-
 // The header is read. One that shows no fault ends within the entry, so that its end does not wrap.
 fn inner_headed(slot: Slot, depth: u64, h: Header) -> InnerStep
     ensures { λ r. ⌜ ((top : Top) (m : ℕ) (f : Flow) → viewInner f r ≡ headed (innerKind top slot depth) h f m) ⌝ }
@@ -102,10 +78,11 @@ fn inner_headed(slot: Slot, depth: u64, h: Header) -> InnerStep
             place: h.pos,
         });
     }
-    index_start(Span {
+    let span = Span {
         pos: h.pos,
         end: h.pos + h.size,
-    })
+    };
+    InnerStep::Go(InnerBox::Body(span, index::index_begin()))
 }
 
 // What a byte of the header makes of the box.

@@ -13,7 +13,6 @@ ghost use Rattle.machine.specs.Lists.{headed, liftBox, goOn};
 ghost use Rattle.state.specs.Flow.{Flow};
 ghost use Rattle.state.specs.Rows.{openingFaults, gapFaults};
 ghost use Rattle.state.specs.Opening.{indexed, brandsFrom, stypEnds, skipOpening, beginOpening, stepOpeningBody, openingBox, opening, wrapOpening, stepOpening};
-ghost use Rattle.state.specs.Sidx.{sidxStart};
 ghost use Rattle.state.specs.Stages.{skipGap, gapKind, gapNext, gapBoxes, wrapGap, stepGap};
 ghost use Rattle.state.specs.Ranges.{Within, openingBodyBounds, openingBounds, gapBounds};
 ghost use Rattle.state.specs.Calls.{flowOf};
@@ -29,13 +28,10 @@ use index::Where;
 use machine::Head;
 use machine::Header;
 use machine::Refusal;
-use state::Draft;
 use state::GapBoxes;
 use state::Index;
-use state::IndexPart;
 use state::OpeningBody;
 use state::OpeningBoxes;
-use state::Sidx;
 use state::Span;
 use state::StypPart;
 
@@ -199,25 +195,6 @@ fn opening_skip(branded: bool, stop: u64, m: u64) -> OpeningStep
     OpeningStep::Go(OpeningBoxes::Body(branded, OpeningBody::Skip { stop }))
 }
 
-fn index_start(branded: bool, span: Span) -> OpeningStep
-    ensures { λ r. ⌜ r ≡ OpeningStep.Go (OpeningBoxes.Body branded (OpeningBody.Index span sidxStart)) ⌝ }
-{
-    let draft = Draft {
-        wide: false,
-        id: 0,
-        scale: 0,
-        time: 0,
-        offset: 0,
-    };
-    let start = Sidx::Field {
-        part: IndexPart::Version,
-        draft,
-        more: 0,
-        acc: 0,
-    };
-    OpeningStep::Go(OpeningBoxes::Body(branded, OpeningBody::Index(span, start)))
-}
-
 // A body begins: that of a `styp`, of the top index, or of a box that is skipped.
 fn opening_begin(branded: bool, h: Header, m: u64) -> OpeningStep
     requires { ⌜ h .pos + h .size ≤ limit ⌝ }
@@ -237,7 +214,11 @@ fn opening_begin(branded: bool, h: Header, m: u64) -> OpeningStep
         ));
     }
     if h.kind == SIDX {
-        return index_start(branded, Span { pos: h.pos, end });
+        let span = Span { pos: h.pos, end };
+        return OpeningStep::Go(OpeningBoxes::Body(
+            branded,
+            OpeningBody::Index(span, index::index_begin()),
+        ));
     }
     opening_skip(branded, end, m)
 }

@@ -1,6 +1,5 @@
-use mathlib.Core.Path.{ap, sym, _∙_}
+use mathlib.Core.Path.{sym, _∙_}
 use native.Mathlib.Omega.{arith}
-use Rattle.inner.specs.Views.{viewInner}
 use Rattle.inner.proofs.Flaws.{inner-fits}
 use Rattle.inner.proofs.Steps.{inner-refused, inner-begun}
 use borrow.Author.Needs.{needs}
@@ -13,15 +12,15 @@ inner-flaw-requires c κs = search needs
 returns : tie.Need-returns
 returns c = λ top m f. inner-refused top _ _ m _ _ f (c .before .inner-flaw .ensures) (c .if1 .taken)
 
-add-t7 : tie.Need-add-t7
-add-t7 c = omega (arith, inner-fits (c .before .before .before .args .slot .end) (c .before .before .before .args .depth) (c .before .before .before .args .h) (sym (c .before .before .inner-flaw .ensures) ∙ c .before .if1 .left))
+add-t8 : tie.Need-add-t8
+add-t8 c = omega (arith, inner-fits (c .before .before .before .args .slot .end) (c .before .before .before .args .depth) (c .before .before .before .args .h) (sym (c .before .before .inner-flaw .ensures) ∙ c .before .if1 .left))
 
-index-start-requires : tie.Need-index-start-requires
-index-start-requires c κs = search needs
+index-begin-requires : tie.Need-index-begin-requires
+index-begin-requires c κs = search needs
 
 returns-2 : tie.Need-returns-2
-returns-2 c = λ top m f. ap (viewInner f) (c .index-start .ensures) ∙ inner-begun top _ _ m _ _ f (c .before .before .before .inner-flaw .ensures) (c .before .before .if1 .left)
+returns-2 c = λ top m f. rw (c .index-begin .ensures) (inner-begun top _ _ m _ _ f (c .before .before .before .inner-flaw .ensures) (c .before .before .if1 .left))
 
 pub inner-headed-spec : {M : Type 1} → statement M
 inner-headed-spec =
-    tie.close (tie.spec inner-flaw-requires returns add-t7 index-start-requires returns-2)
+    tie.close (tie.spec inner-flaw-requires returns add-t8 index-begin-requires returns-2)

@@ -4,7 +4,7 @@ use borrow.Author.Tests.{eq-eqb, ne-eqb}
 use Rattle.basics.specs.Choose.{pick}
 use Rattle.machine.specs.Run.{lift}
 use Rattle.state.specs.Opening.{beginOpening}
-use Rattle.opening.specs.Views.{viewOpening, bodyOpening}
+use Rattle.opening.specs.Views.{bodyOpening}
 use Rattle.opening.proofs.OpeningSteps.{skipped}
 use borrow.Author.Needs.{needs}
 use Rattle.opening.proofs.opening_begin.Statement.{statement}
@@ -17,14 +17,13 @@ returns : tie.Need-returns
 unfolding beginOpening lift pick
 returns c = λ brand f. simp (eq-eqb _ _ (c .if1 .taken))
 
-index-start-requires : tie.Need-index-start-requires
-index-start-requires c κs = search needs
+index-begin-requires : tie.Need-index-begin-requires
+index-begin-requires c κs = search needs
 
 returns-2 : tie.Need-returns-2
 unfolding beginOpening lift pick
 returns-2 c = λ brand f.
-    ap (viewOpening f) (c .index-start .ensures)
-    ∙ simp (ne-eqb _ _ (c .before .before .before .if1 .left), eq-eqb _ _ (c .before .if2 .taken))
+    simp (c .index-begin .ensures, ne-eqb _ _ (c .before .before .before .if1 .left), eq-eqb _ _ (c .before .if2 .taken))
 
 opening-skip-requires : tie.Need-opening-skip-requires
 opening-skip-requires c κs = search needs
@@ -37,4 +36,4 @@ returns-3 c = λ brand f.
 pub opening-begin-spec : {M : Type 1} → statement M
 opening-begin-spec =
     tie.close
-    (tie.spec add-end returns index-start-requires returns-2 opening-skip-requires returns-3)
+    (tie.spec add-end returns index-begin-requires returns-2 opening-skip-requires returns-3)
