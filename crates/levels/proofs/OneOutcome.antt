@@ -11,6 +11,8 @@ use Rattle.levels.specs.declared.Still.{Still}
 use Rattle.levels.specs.declared.Still.the-variants as still
 use Rattle.levels.proofs.word_at.Kinds as word-at-kinds
 use Rattle.levels.proofs.word_at.Reads as word-at-stated
+use Rattle.levels.proofs.inmost.Kinds as inmost-kinds
+use Rattle.levels.proofs.inmost.Reads as inmost-stated
 use Rattle.levels.proofs.depth.Kinds as depth-kinds
 use Rattle.levels.proofs.depth.Reads as depth-stated
 use Rattle.levels.proofs.took_entry.Kinds as took-entry-kinds
@@ -29,6 +31,13 @@ use Rattle.levels.proofs.put_row.Reads as put-row-stated
 -- of one work area and place: one number
 pub word-at-once : Coincide 1 word-at-kinds.ps word-at-kinds.r word-at-stated.Post
 word-at-once κs given r r' left left' p q = (p ∙ sym q, refl)
+
+-- of the open indexes: one innermost
+pub inmost-once : OneOutcome 0 inmost-kinds.ps inmost-kinds.r inmost-stated.Pre inmost-stated.Post
+inmost-once = record {
+  asks-nothing = λ κs given. tt;
+  outcomes-coincide = λ κs given r r' left left' p q. (p ∙ sym q, refl);
+}
 
 -- of the open indexes: one count
 pub depth-once : OneOutcome 0 depth-kinds.ps depth-kinds.r depth-stated.Pre depth-stated.Post

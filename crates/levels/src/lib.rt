@@ -80,7 +80,8 @@ fn entry_at(work: &[u8], i: usize) -> Entry
     }
 }
 
-fn inmost(ls: Levels) -> Level
+// The innermost open index.
+pub fn inmost(ls: Levels) -> Level
     ensures { λ r. ⌜ r ≡ defs.inmost ls ⌝ }
 {
     match ls {
@@ -91,6 +92,7 @@ fn inmost(ls: Levels) -> Level
     }
 }
 
+// How many indexes stand open.
 pub fn depth(ls: Levels) -> u64
     ensures { λ r. ⌜ r ≡ defs.depth ls ⌝ }
 {

@@ -4,7 +4,7 @@ ghost use mathlib.Core.Bool.{_&&_};
 ghost use mathlib.Core.List.{[], _∷_, _++_};
 ghost use Prim.Native.Nat.{_+_, _^_, _<_};
 ghost use Rattle.segment.specs.Constants.{timeLimit, mostRecords};
-ghost use Rattle.state.specs.Levels.{depth, inmost};
+ghost use Rattle.state.specs.Levels.{inmost};
 ghost use Rattle.state.specs.Sidx.{wideMore};
 ghost use Rattle.state.specs.declared.Levels.{Levels};
 ghost use Rattle.state.specs.Ranges.{atMost, below, within, spelled, headBounds, trafMost, trafBodyBounds, trafBounds, moofBodyBounds};
@@ -421,34 +421,10 @@ fn levels_fit(ls: Levels) -> bool
     }
 }
 
-// The innermost open index.
-fn innermost(ls: Levels) -> Level
-    ensures { λ r. ⌜ r ≡ inmost ls ⌝ }
-{
-    match ls {
-        Levels::One(a) => a,
-        Levels::Two(_, b) => b,
-        Levels::Three(_, _, c) => c,
-        Levels::Four(_, _, _, d) => d,
-    }
-}
-
-// How many indexes stand open.
-fn open_count(ls: Levels) -> u64
-    ensures { λ r. ⌜ r ≡ depth ls ⌝ }
-{
-    match ls {
-        Levels::One(_) => 1,
-        Levels::Two(_, _) => 2,
-        Levels::Three(_, _, _) => 3,
-        Levels::Four(_, _, _, _) => 4,
-    }
-}
-
 fn slot_fits(ls: Levels, s: Slot, at: u64) -> bool
     ensures { λ r. ⌜ r ≡ within (slotBounds ls s at) ⌝ }
 {
-    let inner = innermost(ls);
+    let inner = levels::inmost(ls);
     both(
         at_most(s.pos, s.end),
         both(at_most(at, s.until), at_most(s.until, inner.until)),
@@ -460,7 +436,7 @@ fn inner_fits(ls: Levels, b: InnerBox) -> bool
 {
     match b {
         InnerBox::Head(h) => head_fits(h),
-        InnerBox::Body(_, s) => both(less(open_count(ls), 4), sidx_fits(s)),
+        InnerBox::Body(_, s) => both(less(levels::depth(ls), 4), sidx_fits(s)),
     }
 }
 
@@ -474,7 +450,7 @@ fn gap_stage_fits(t: Top, l: Level, boxes: GapBoxes, at: u64) -> bool
 fn next_entry_fits(ls: Levels, at: u64) -> bool
     ensures { λ r. ⌜ r ≡ within (below (inmost ls .next) (inmost ls .count) ∷ atMost at (inmost ls .until) ∷ []) ⌝ }
 {
-    let inner = innermost(ls);
+    let inner = levels::inmost(ls);
     both(less(inner.next, inner.count), at_most(at, inner.until))
 }
 

@@ -18,8 +18,8 @@ head-fits-requires c κs = search needs
 enum-known-b-2 : tie.Need-enum-known-b-2
 enum-known-b-2 c = search needs
 
-open-count-requires : tie.Need-open-count-requires
-open-count-requires c κs = search needs
+depth-requires : tie.Need-depth-requires
+depth-requires c κs = search needs
 
 less-requires : tie.Need-less-requires
 less-requires c κs = search needs
@@ -40,7 +40,7 @@ returns-2 : tie.Need-returns-2
 unfolding innerBounds
 returns-2 c =
     joined _ _
-    (c .before .before .less .ensures ∙ ap (λ (d : ℕ). within (below d 4 ∷ [])) (c .before .before .before .open-count .ensures))
+    (c .before .before .less .ensures ∙ ap (λ (d : ℕ). within (below d 4 ∷ [])) (c .before .before .before .depth .ensures))
     (c .before .sidx-fits .ensures) (c .both .ensures)
     ∙ sym
     (ap (λ (q : InnerBox). within (innerBounds (c .before .before .before .before .before .before .before .args .ls) q))
@@ -53,7 +53,7 @@ inner-fits-spec =
     enum-known-b
     head-fits-requires
     enum-known-b-2
-    open-count-requires
+    depth-requires
     less-requires
     sidx-fits-requires
     both-requires

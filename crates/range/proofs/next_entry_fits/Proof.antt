@@ -8,8 +8,8 @@ use borrow.Author.Needs.{needs}
 use Rattle.range.proofs.next_entry_fits.Statement.{statement}
 use Rattle.range.proofs.next_entry_fits.Tie as tie
 
-innermost-requires : tie.Need-innermost-requires
-innermost-requires c κs = search needs
+inmost-requires : tie.Need-inmost-requires
+inmost-requires c κs = search needs
 
 less-requires : tie.Need-less-requires
 less-requires c κs = search needs
@@ -23,11 +23,11 @@ both-requires c κs = search needs
 returns : tie.Need-returns
 returns c =
     joined _ _
-    (c .before .before .less .ensures ∙ ap (λ (l : Level). within (below (l .next) (l .count) ∷ [])) (c .before .before .before .innermost .ensures))
+    (c .before .before .less .ensures ∙ ap (λ (l : Level). within (below (l .next) (l .count) ∷ [])) (c .before .before .before .inmost .ensures))
     (c .before .at-most .ensures
-    ∙ ap (λ (l : Level). within (atMost (c .before .before .before .before .args .at) (l .until) ∷ [])) (c .before .before .before .innermost .ensures))
+    ∙ ap (λ (l : Level). within (atMost (c .before .before .before .before .args .at) (l .until) ∷ [])) (c .before .before .before .inmost .ensures))
     (c .both .ensures)
 
 pub next-entry-fits-spec : {M : Type 1} → statement M
 next-entry-fits-spec =
-    tie.close (tie.spec innermost-requires less-requires at-most-requires both-requires returns)
+    tie.close (tie.spec inmost-requires less-requires at-most-requires both-requires returns)

@@ -8,8 +8,8 @@ use borrow.Author.Needs.{needs}
 use Rattle.range.proofs.slot_fits.Statement.{statement}
 use Rattle.range.proofs.slot_fits.Tie as tie
 
-innermost-requires : tie.Need-innermost-requires
-innermost-requires c κs = search needs
+inmost-requires : tie.Need-inmost-requires
+inmost-requires c κs = search needs
 
 at-most-requires : tie.Need-at-most-requires
 at-most-requires c κs = search needs
@@ -34,7 +34,7 @@ returns c =
     (c .before .before .before .at-most2 .ensures)
     (c .before .before .at-most3 .ensures
     ∙ ap (λ (l : Level). within (atMost (c .before .before .before .before .before .before .args .s .until) (l .until) ∷ []))
-    (c .before .before .before .before .before .innermost .ensures))
+    (c .before .before .before .before .before .inmost .ensures))
     (c .before .both .ensures))
     (c .both2 .ensures)
 
@@ -42,7 +42,7 @@ pub slot-fits-spec : {M : Type 1} → statement M
 slot-fits-spec =
     tie.close
     (tie.spec
-    innermost-requires
+    inmost-requires
     at-most-requires
     at-most-requires-2
     at-most-requires-3
