@@ -1,11 +1,11 @@
 // The reader fed in parts: start, feed and finish. A state goes in by value and comes back by value; nothing else is kept.
-pub mod finish;
-pub mod start;
-
+pub use finish::Finished;
+pub use finish::finish;
 use jump::pass;
 use jump::passing_now;
 use machine::Refusal;
 use range::in_range;
+pub use start::start;
 use state::FeedAnswer;
 use state::State;
 use step::state_byte;

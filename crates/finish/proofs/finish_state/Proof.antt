@@ -4,8 +4,8 @@ use Rattle.state.specs.declared.State.{State}
 use Rattle.machine.specs.Faults.{refusal}
 use Rattle.state.specs.declared.FinishAnswer.the-variants as finishes
 use borrow.Author.Needs.{needs}
-use Rattle.feed.proofs.finish.finish_state.Statement.{statement}
-use Rattle.feed.proofs.finish.finish_state.Tie as tie
+use Rattle.finish.proofs.finish_state.Statement.{statement}
+use Rattle.finish.proofs.finish_state.Tie as tie
 
 enum-known-s : tie.Need-enum-known-s
 enum-known-s c = search needs

@@ -2,8 +2,8 @@ use mathlib.Core.Path.{sym, _∙_}
 use Rattle.state.specs.Calls.{finishOf}
 use Rattle.basics.proofs.Picks.{pick-yes, pick-no}
 use borrow.Author.Needs.{needs}
-use Rattle.feed.proofs.finish.finish.Statement.{statement}
-use Rattle.feed.proofs.finish.finish.Tie as tie
+use Rattle.finish.proofs.finish.Statement.{statement}
+use Rattle.finish.proofs.finish.Tie as tie
 
 in-range-requires : tie.Need-in-range-requires
 in-range-requires c κs = search needs

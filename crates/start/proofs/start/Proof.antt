@@ -4,8 +4,8 @@ use native.Mathlib.Omega.{arith}
 use lib.Seq.{take-all}
 use Rattle.basics.specs.Bytes.{number}
 use borrow.Author.Needs.{needs}
-use Rattle.feed.proofs.start.start.Statement.{statement}
-use Rattle.feed.proofs.start.start.Tie as tie
+use Rattle.start.proofs.start.Statement.{statement}
+use Rattle.start.proofs.start.Tie as tie
 
 slice-aggregate-word-at : tie.Need-slice-aggregate-word-at
 slice-aggregate-word-at c = search needs
