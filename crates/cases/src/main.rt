@@ -1,20 +1,20 @@
 // Runs the cases of document 01 that no theorem states, and prints a line for each: what the reader gives.
-// The file `stdout` has what document 01 asks for. A line goes on with `differs` or `not kept` only where the reader fails it.
+// The file `stdout` has what document 01 asks for. A line has `differs` or `not kept` only where the reader fails it.
 mod lines;
 
+use cuttings::Tally;
+use cuttings::print_tally;
+use data::files::read_file;
+use data::text::part;
 use lines::Kind;
 use lines::run_lines;
-use pieces::Tally;
-use pieces::print_tally;
-use trial::files::read_file;
-use trial::text::part;
 
-// The lines of one file of data.
+// The lines of one file of data. No segment has more than 65,536 bytes: the second half of the bytes stays zeros.
 fn run_file(path: &[u8], kind: Kind, before: Tally) -> Tally {
     let mut buffer = [0u8; 524288];
-    let mut segment = [0u8; 65536];
+    let mut bytes = [0u8; 131072];
     let n = read_file(path, &mut buffer);
-    run_lines(kind, part(&buffer, 0, n), &mut segment, before)
+    run_lines(kind, part(&buffer, 0, n), &mut bytes, before)
 }
 
 fn main() {
@@ -25,13 +25,6 @@ fn main() {
     let made = run_file(b"segments.tsv", Kind::Made, none);
     let vectors = run_file(b"vectors.tsv", Kind::Vector, made);
     let all = run_file(b"real.tsv", Kind::Real, vectors);
-    run_file(b"stored.tsv", Kind::Stored, none);
-    run_file(b"altered.tsv", Kind::Altered, none);
-    run_file(b"rooms.tsv", Kind::Room, none);
-    run_file(b"long.tsv", Kind::Long, none);
-    run_file(b"full.tsv", Kind::Full, none);
-    run_file(b"lookups.tsv", Kind::Lookup, none);
-    run_file(b"calls.tsv", Kind::Calls, none);
-    run_file(b"states.tsv", Kind::State, none);
+    run_file(b"scripts.tsv", Kind::Script, none);
     print_tally(all);
 }

@@ -1,4 +1,5 @@
-// States made from numbers.
+// States made from the numbers that a word of a script gives.
+use data::text::nth;
 use machine::Head;
 use machine::Refusal;
 use state::Level;
@@ -7,40 +8,9 @@ use state::OpeningBoxes;
 use state::Stage;
 use state::State;
 use state::Top;
-use trial::text::field;
-use trial::text::number;
 
-fn top_of(id: u64, scale: u64, start: u64, durations: u64) -> Top {
-    Top {
-        id,
-        scale,
-        start,
-        durations,
-    }
-}
-
-fn ended(count: u64, leaves: u64, top: Top) -> State {
-    State::Ended { count, leaves, top }
-}
-
-pub fn accepted(count: u64, leaves: u64) -> State {
-    State::Accepted {
-        count,
-        leaves,
-        top: top_of(1, 1000, 0, 0),
-    }
-}
-
-pub fn refused(count: u64, number: u64) -> State {
-    State::Refused {
-        count,
-        leaves: 0,
-        refusal: Refusal { number, place: 5 },
-    }
-}
-
-// In the size of the first box.
-fn in_size(more: u64, acc: u64) -> State {
+// In the size of the first box: how many bytes of it follow, and what those before them spell.
+fn in_size(word: &[u8]) -> State {
     State::Reading {
         count: 1,
         leaves: 0,
@@ -48,51 +18,89 @@ fn in_size(more: u64, acc: u64) -> State {
         last: 0,
         stage: Stage::Opening {
             brand: 0,
-            boxes: OpeningBoxes::Head(false, Head::Size { pos: 0, more, acc }),
+            boxes: OpeningBoxes::Head(
+                false,
+                Head::Size {
+                    pos: 0,
+                    more: nth(word, 0),
+                    acc: nth(word, 1),
+                },
+            ),
         },
     }
 }
 
-// Before an entry of the top index that ends, with all its entries, at the time 7.
-fn at_entry(next: u64, count: u64, now: u64) -> State {
-    let level = Level {
-        next,
-        count,
-        end: 1000,
-        until: 7,
-    };
+// Bytes, leaves, and the numbers of the top index.
+fn top_in(word: &[u8]) -> Top {
+    Top {
+        id: nth(word, 2),
+        scale: nth(word, 3),
+        start: nth(word, 4),
+        durations: nth(word, 5),
+    }
+}
+
+fn ended(word: &[u8]) -> State {
+    State::Ended {
+        count: nth(word, 0),
+        leaves: nth(word, 1),
+        top: top_in(word),
+    }
+}
+
+fn accepted(word: &[u8]) -> State {
+    State::Accepted {
+        count: nth(word, 0),
+        leaves: nth(word, 1),
+        top: top_in(word),
+    }
+}
+
+// Bytes, leaves, the refusal's number and place.
+fn refused(word: &[u8]) -> State {
+    State::Refused {
+        count: nth(word, 0),
+        leaves: nth(word, 1),
+        refusal: Refusal {
+            number: nth(word, 2),
+            place: nth(word, 3),
+        },
+    }
+}
+
+// At byte 100, before an entry of the top index, whose entries end at the time 7: the entry's number, how many there are, the time
+// now, the leaves listed, and where the material ends.
+fn at_entry(word: &[u8]) -> State {
     State::Reading {
         count: 100,
-        leaves: 0,
-        now,
+        leaves: nth(word, 3),
+        now: nth(word, 2),
         last: 0,
         stage: Stage::Entry {
-            top: top_of(1, 1000, 0, 7),
-            levels: Levels::One(level),
+            top: Top {
+                id: 1,
+                scale: 1000,
+                start: 0,
+                durations: 7,
+            },
+            levels: Levels::One(Level {
+                next: nth(word, 0),
+                count: nth(word, 1),
+                end: nth(word, 4),
+                until: 7,
+            }),
         },
     }
 }
 
-// A state from the numbers of a line.
-pub fn state_of(line: &[u8]) -> State {
-    let kind = number(field(line, 2));
-    let a = number(field(line, 3));
-    let b = number(field(line, 4));
-    let c = number(field(line, 5));
-    match kind {
-        0 => in_size(a, b),
-        1 => ended(
-            a,
-            b,
-            top_of(
-                c,
-                number(field(line, 6)),
-                number(field(line, 7)),
-                number(field(line, 8)),
-            ),
-        ),
-        2 => refused(a, b),
-        3 => accepted(a, b),
-        _ => at_entry(a, b, c),
+// A state, by the letter of a word and the numbers that it gives; where no state has the letter, the one that there is.
+pub fn state_of(letter: u8, word: &[u8], s: State) -> State {
+    match letter {
+        b'S' => in_size(word),
+        b'M' => ended(word),
+        b'R' => refused(word),
+        b'A' => accepted(word),
+        b'E' => at_entry(word),
+        _ => s,
     }
 }

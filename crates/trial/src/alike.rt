@@ -1,73 +1,50 @@
-// Whether two readings answered alike and left the same.
-use crate::text::part;
+// The end of a reading as numbers, and what the calls on the way to it and after it have to answer.
 use machine::Refusal;
 use state::FeedAnswer;
 use state::FinishAnswer;
 use state::State;
 use state::Top;
 
-const LEVEL_BYTES: usize = 12288;
+const LATE: u64 = 20;
 
-// An answer as numbers: a count, or a refusal's number and place.
-struct Told {
-    refused: bool,
-    number: u64,
-    place: u64,
+// What a state is: it goes on, the material is over, it was refused, or it was accepted.
+const READING: u64 = 0;
+
+const ENDED: u64 = 1;
+
+const REFUSED: u64 = 2;
+
+const ACCEPTED: u64 = 3;
+
+// A state as numbers. Of a reading that goes on, the stage is left out.
+pub struct Left {
+    outcome: u64,
+    count: u64,
+    leaves: u64,
+    refusal: Refusal,
+    top: Top,
 }
 
-fn told_count(count: u64) -> Told {
-    Told {
-        refused: false,
-        number: count,
+// What finish answered, and what it left.
+pub struct End {
+    pub answer: FinishAnswer,
+    left: Left,
+}
+
+fn no_refusal() -> Refusal {
+    Refusal {
+        number: 0,
         place: 0,
     }
 }
 
-fn told_refusal(r: Refusal) -> Told {
-    Told {
-        refused: true,
-        number: r.number,
-        place: r.place,
+fn no_top() -> Top {
+    Top {
+        id: 0,
+        scale: 0,
+        start: 0,
+        durations: 0,
     }
-}
-
-fn told_fed(answer: FeedAnswer) -> Told {
-    match answer {
-        FeedAnswer::Read(count) => told_count(count),
-        FeedAnswer::Refused(refusal) => told_refusal(refusal),
-    }
-}
-
-fn told_finished(answer: FinishAnswer) -> Told {
-    match answer {
-        FinishAnswer::Listed(leaves) => told_count(leaves),
-        FinishAnswer::Refused(refusal) => told_refusal(refusal),
-    }
-}
-
-fn same_told(a: Told, b: Told) -> bool {
-    a.refused == b.refused && a.number == b.number && a.place == b.place
-}
-
-pub fn same_fed(a: FeedAnswer, b: FeedAnswer) -> bool {
-    same_told(told_fed(a), told_fed(b))
-}
-
-pub fn same_finished(a: FinishAnswer, b: FinishAnswer) -> bool {
-    same_told(told_finished(a), told_finished(b))
-}
-
-// A refusal that feed gives, beside one that finish gives.
-pub fn same_refusal(a: FeedAnswer, b: FinishAnswer) -> bool {
-    same_told(told_fed(a), told_finished(b))
-}
-
-// A state's outcome as numbers. Of a reading that goes on, the stage is left out.
-struct Left {
-    outcome: u64,
-    count: u64,
-    leaves: u64,
-    top: Top,
 }
 
 fn left_by(s: State) -> Left {
@@ -75,42 +52,67 @@ fn left_by(s: State) -> Left {
         State::Reading {
             count,
             leaves,
-            now,
-            last,
+            now: _,
+            last: _,
             stage: _,
-        } => left_as(0, count, leaves, now, last),
-        State::Ended { count, leaves, top } => Left {
-            outcome: 1,
+        } => Left {
+            outcome: READING,
             count,
             leaves,
+            refusal: no_refusal(),
+            top: no_top(),
+        },
+        State::Ended { count, leaves, top } => Left {
+            outcome: ENDED,
+            count,
+            leaves,
+            refusal: no_refusal(),
             top,
         },
         State::Refused {
             count,
             leaves,
             refusal,
-        } => left_as(2, count, leaves, refusal.number, refusal.place),
-        State::Accepted { count, leaves, top } => Left {
-            outcome: 3,
+        } => Left {
+            outcome: REFUSED,
             count,
             leaves,
+            refusal,
+            top: no_top(),
+        },
+        State::Accepted { count, leaves, top } => Left {
+            outcome: ACCEPTED,
+            count,
+            leaves,
+            refusal: no_refusal(),
             top,
         },
     }
 }
 
-fn left_as(outcome: u64, count: u64, leaves: u64, a: u64, b: u64) -> Left {
-    Left {
-        outcome,
-        count,
-        leaves,
-        top: Top {
-            id: a,
-            scale: b,
-            start: 0,
-            durations: 0,
+pub fn end_of(answer: FinishAnswer, s: State) -> End {
+    End {
+        answer,
+        left: left_by(s),
+    }
+}
+
+// What stands for an end that is not known yet.
+pub fn no_end() -> End {
+    End {
+        answer: FinishAnswer::Listed(0),
+        left: Left {
+            outcome: READING,
+            count: 0,
+            leaves: 0,
+            refusal: no_refusal(),
+            top: no_top(),
         },
     }
+}
+
+fn same_refusal(a: Refusal, b: Refusal) -> bool {
+    a.number == b.number && a.place == b.place
 }
 
 fn same_top(a: Top, b: Top) -> bool {
@@ -118,55 +120,78 @@ fn same_top(a: Top, b: Top) -> bool {
 }
 
 fn same_left(a: Left, b: Left) -> bool {
-    let x = a.top;
-    let y = b.top;
-    a.outcome == b.outcome && a.count == b.count && a.leaves == b.leaves && same_top(x, y)
+    let x = a.refusal;
+    let y = b.refusal;
+    let p = a.top;
+    let q = b.top;
+    let counts = a.outcome == b.outcome && a.count == b.count && a.leaves == b.leaves;
+    counts && same_refusal(x, y) && same_top(p, q)
 }
 
-pub fn same_state(a: State, b: State) -> bool {
-    same_left(left_by(a), left_by(b))
-}
-
-pub fn same_bytes(a: &[u8], b: &[u8]) -> bool {
-    let mut i = 0;
-    while i < a.len() && i < b.len() {
-        if a[i] != b[i] {
-            return false;
-        }
-        i += 1;
+fn same_answer(a: FinishAnswer, b: FinishAnswer) -> bool {
+    match a {
+        FinishAnswer::Listed(m) => listed(b, m),
+        FinishAnswer::Refused(r) => declined(b, r),
     }
-    a.len() == b.len()
 }
 
-// The first n numbers of two tables, and how many each has.
-pub fn same_numbers(a: &[u64], b: &[u64], n: usize) -> bool {
-    let mut i = 0;
-    while i < a.len() && i < b.len() && i < n {
-        if a[i] != b[i] {
-            return false;
-        }
-        i += 1;
+fn listed(answer: FinishAnswer, leaves: u64) -> bool {
+    match answer {
+        FinishAnswer::Listed(n) => n == leaves,
+        FinishAnswer::Refused(_) => false,
     }
-    a.len() == b.len()
 }
 
-// The first n bytes of one level's part of the work area.
-fn level_part(work: &[u8], level: usize, n: usize) -> &[u8] {
-    if level < 4 {
-        let from = LEVEL_BYTES * level;
-        return part(part(work, from, from + LEVEL_BYTES), 0, n);
+fn declined(answer: FinishAnswer, r: Refusal) -> bool {
+    match answer {
+        FinishAnswer::Listed(_) => false,
+        FinishAnswer::Refused(x) => same_refusal(x, r),
     }
-    part(work, 0, 0)
 }
 
-fn same_level(a: &[u8], b: &[u8], level: usize, n: usize) -> bool {
-    same_bytes(level_part(a, level, n), level_part(b, level, n))
+pub fn same_end(a: End, b: End) -> bool {
+    let x = a.answer;
+    let y = b.answer;
+    let s = a.left;
+    let t = b.left;
+    same_answer(x, y) && same_left(s, t)
 }
 
-// The first n bytes of each level's part of the work area.
-pub fn same_levels(a: &[u8], b: &[u8], n: usize) -> bool {
-    same_level(a, b, 0, n)
-        && same_level(a, b, 1, n)
-        && same_level(a, b, 2, n)
-        && same_level(a, b, 3, n)
+// How many bytes were read when feed refused a segment that ends so, the byte at fault among them; none where it did not.
+pub fn refused_after(end: End) -> u64 {
+    let left = end.left;
+    let x = left.refusal;
+    if left.outcome != REFUSED || x.number == LATE {
+        return 0;
+    }
+    left.count
+}
+
+// Whether feed has to refuse the k-th byte of a segment that ends so, or has done so before.
+fn over_by(k: u64, end: End) -> bool {
+    let after = refused_after(end);
+    0 < after && after <= k
+}
+
+fn fed_refused(answer: FeedAnswer, r: Refusal) -> bool {
+    match answer {
+        FeedAnswer::Read(_) => false,
+        FeedAnswer::Refused(x) => same_refusal(x, r),
+    }
+}
+
+fn fed_read(answer: FeedAnswer, k: u64) -> bool {
+    match answer {
+        FeedAnswer::Read(count) => count == k,
+        FeedAnswer::Refused(_) => false,
+    }
+}
+
+// Whether feed answers what it has to once k bytes were fed: the refusal, if the byte at fault was among them, or the count.
+pub fn answers_at(k: u64, answer: FeedAnswer, end: End) -> bool {
+    if over_by(k, end) {
+        let left = end.left;
+        return fed_refused(answer, left.refusal);
+    }
+    fed_read(answer, k)
 }

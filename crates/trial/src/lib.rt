@@ -1,5 +1,4 @@
-// What the cases share: lines of data, what is printed, and whether two readings are alike.
+// What is printed of an answer and of what was lent, and whether two readings are alike.
 pub mod alike;
-pub mod files;
+pub mod lent;
 pub mod prints;
-pub mod text;

@@ -1,6 +1,5 @@
 // What is printed of an answer. The text of a listing is that of the crate `listing`, its lines joined by `/`.
-use crate::alike::same_refusal;
-use crate::text::part;
+use data::text::part;
 use libc::STDOUT_FILENO;
 use listing::Line;
 use listing::heading;
@@ -33,6 +32,7 @@ fn print_refusal(r: Refusal) {
 
 // `K read`, or a refusal.
 pub fn print_fed(answer: FeedAnswer) {
+    print(b" ");
     match answer {
         FeedAnswer::Read(count) => {
             print_number(count);
@@ -40,6 +40,7 @@ pub fn print_fed(answer: FeedAnswer) {
         }
         FeedAnswer::Refused(refusal) => print_refusal(refusal),
     }
+    print(b";");
 }
 
 // The record of leaf i, counted from 0, after a `/`.
@@ -74,52 +75,31 @@ fn leaf_count(answer: FinishAnswer) -> u64 {
     }
 }
 
-// The first line of a listing.
-pub fn print_finished(answer: FinishAnswer) {
-    print_line(heading(answer));
-}
-
 // The whole listing in one line.
 pub fn print_listing(answer: FinishAnswer, table: &[u64]) {
     print_line(heading(answer));
     print_leaves(leaf_count(answer), table);
 }
 
-// The heading, and of the leaves the last one only.
-pub fn print_last(answer: FinishAnswer, table: &[u64]) {
-    print_line(heading(answer));
-    let leaves = leaf_count(answer);
-    if 0 < leaves {
-        print_leaf(table, (leaves - 1) as usize);
-    }
+// The listing, as the answer of a word.
+pub fn print_end(answer: FinishAnswer, table: &[u64]) {
+    print(b" ");
+    print_listing(answer, table);
+    print(b";");
 }
 
 // The leaf's number and record, or a refusal.
 pub fn print_found(answer: LookupAnswer) {
+    print(b" ");
     match answer {
         LookupAnswer::Found(leaf, r) => {
             print_line(leaf_line(leaf, numbers_of(r)));
         }
         LookupAnswer::Refused(refusal) => print_refusal(refusal),
     }
+    print(b";");
 }
 
 fn numbers_of(r: Record) -> [u64; 6] {
     [r.position, r.size, r.start, r.duration, r.sap, r.time]
-}
-
-// What feed answered to one byte, and the listing in the end: a count and then the listing, or the refusal that is both.
-pub fn print_end(at: FeedAnswer, end: FinishAnswer, table: &[u64]) {
-    match at {
-        FeedAnswer::Read(count) => {
-            print_number(count);
-            print(b" read, ");
-        }
-        FeedAnswer::Refused(_) => {
-            if !same_refusal(at, end) {
-                print(b"differs at its byte: ");
-            }
-        }
-    }
-    print_listing(end, table);
 }

@@ -1,0 +1,108 @@
+// What is lent for a reading: a work area and a leaf table, which hold the same before each.
+use crate::text::part;
+
+const LEVEL_BYTES: usize = 12288;
+
+// What every byte of a work area and every number of a table is before a reading; neither is 0.
+pub const BYTE: u8 = 165;
+
+pub const NUMBER: u64 = 11936128518282651045;
+
+// The first n bytes, or all that there are.
+pub fn lent_bytes(work: &mut [u8], n: usize) -> &mut [u8] {
+    let from = 0;
+    if n <= work.len() {
+        return &mut work[from..n];
+    }
+    work
+}
+
+// The first n numbers, or all that there are.
+pub fn lent_numbers(table: &mut [u64], n: usize) -> &mut [u64] {
+    let from = 0;
+    if n <= table.len() {
+        return &mut table[from..n];
+    }
+    table
+}
+
+fn fill_bytes(bytes: &mut [u8]) {
+    let mut i = 0;
+    while i < bytes.len() {
+        bytes[i] = BYTE;
+        i += 1;
+    }
+}
+
+// The first n bytes of one level's part.
+fn fill_level(work: &mut [u8], level: usize, n: usize) {
+    if level < 4 {
+        if n <= LEVEL_BYTES {
+            let from = LEVEL_BYTES * level;
+            let to = from + n;
+            if to <= work.len() {
+                fill_bytes(&mut work[from..to]);
+            }
+        }
+    }
+}
+
+// The first n bytes of each level's part.
+pub fn fill_levels(work: &mut [u8], n: usize) {
+    for level in 0..4 {
+        fill_level(work, level, n);
+    }
+}
+
+// The first n numbers of a table.
+pub fn fill_numbers(table: &mut [u64], n: usize) {
+    let mut i = 0;
+    while i < table.len() && i < n {
+        table[i] = NUMBER;
+        i += 1;
+    }
+}
+
+pub fn same_bytes(a: &[u8], b: &[u8]) -> bool {
+    let mut i = 0;
+    while i < a.len() && i < b.len() {
+        if a[i] != b[i] {
+            return false;
+        }
+        i += 1;
+    }
+    a.len() == b.len()
+}
+
+// The first n numbers of two tables, and how many each has.
+pub fn same_numbers(a: &[u64], b: &[u64], n: usize) -> bool {
+    let mut i = 0;
+    while i < a.len() && i < b.len() && i < n {
+        if a[i] != b[i] {
+            return false;
+        }
+        i += 1;
+    }
+    a.len() == b.len()
+}
+
+// The first n bytes of one level's part of the work area.
+fn level_part(work: &[u8], level: usize, n: usize) -> &[u8] {
+    if level < 4 {
+        let from = LEVEL_BYTES * level;
+        return part(part(work, from, from + LEVEL_BYTES), 0, n);
+    }
+    part(work, 0, 0)
+}
+
+fn same_level(a: &[u8], b: &[u8], level: usize, n: usize) -> bool {
+    same_bytes(level_part(a, level, n), level_part(b, level, n))
+}
+
+// The first n bytes of each level's part of the work area.
+pub fn same_levels(a: &[u8], b: &[u8], n: usize) -> bool {
+    same_level(a, b, 0, n)
+        && same_level(a, b, 1, n)
+        && same_level(a, b, 2, n)
+        && same_level(a, b, 3, n)
+}
