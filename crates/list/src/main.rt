@@ -1,8 +1,7 @@
 // Lists the leaves of the segment that comes on standard input: document 01's listing program.
 ghost use mathlib.Core.Path.{_≡_};
-ghost use Prim.Native.Nat.{_+_, _*_, _≤_, _<_};
-ghost use lib.ListN.{length, take, drop};
-ghost use Rattle.listing.specs.Text.{leafText, lineOf};
+ghost use Prim.Native.Nat.{_<_};
+ghost use lib.ListN.{length};
 use feed::feed;
 use feed::finish;
 use feed::start;
@@ -10,7 +9,7 @@ use libc::STDIN_FILENO;
 use libc::STDOUT_FILENO;
 use listing::Line;
 use listing::heading;
-use listing::leaf_line;
+use listing::leaf_after;
 use state::FeedAnswer;
 use state::FinishAnswer;
 use state::State;
@@ -86,23 +85,6 @@ fn read_segment(part: &mut [u8], work: &mut [u8], table: &mut [u64]) -> Reading 
         turns -= 1;
     }
     r
-}
-
-// The line of the leaf with so many before it.
-fn leaf_after(table: &[u64], i: usize) -> Line
-    requires { ⌜ 6 * i + 6 ≤ length (now table) ⌝ }
-    ensures { λ r. ⌜ r ≡ lineOf (leafText (i + 1) (take 6 (drop (6 * i) (now (table .entry))))) ⌝ }
-{
-    let at = NUMBERS * i;
-    let numbers = [
-        table[at],
-        table[at + 1],
-        table[at + 2],
-        table[at + 3],
-        table[at + 4],
-        table[at + 5],
-    ];
-    leaf_line((i + 1) as u64, numbers)
 }
 
 // A text of so many bytes and a line's end, by one write; whether all of it was taken.

@@ -1,4 +1,5 @@
 pub mod Laws
+pub mod Rows
 pub mod OneOutcome
 pub mod Decimal
 pub mod LinesOfS

@@ -1,12 +1,14 @@
--- The contracts of `heading`, `refused_line` and `leaf_line` themselves, as the check reads them: each asks nothing, and two outcomes that it allows coincide.
+-- The contracts of `heading`, `refused_line`, `leaf_line` and `leaf_after` themselves, as the check reads them: two outcomes that each allows coincide, and but for the last, which requires the record, each asks nothing.
 use mathlib.Core.Path.{refl, sym, _∙_}
-use Rattle.basics.specs.Outcome.{OneOutcome}
+use Rattle.basics.specs.Outcome.{OneOutcome, Coincide}
 use Rattle.listing.proofs.heading.Kinds as heading-kinds
 use Rattle.listing.proofs.heading.Reads as heading-stated
 use Rattle.listing.proofs.refused_line.Kinds as refused-kinds
 use Rattle.listing.proofs.refused_line.Reads as refused-stated
 use Rattle.listing.proofs.leaf_line.Kinds as leaf-kinds
 use Rattle.listing.proofs.leaf_line.Reads as leaf-stated
+use Rattle.listing.proofs.leaf_after.Kinds as leaf-after-kinds
+use Rattle.listing.proofs.leaf_after.Reads as leaf-after-stated
 
 -- of one answer: one line
 pub heading-once : OneOutcome 0 heading-kinds.ps heading-kinds.r heading-stated.Pre heading-stated.Post
@@ -28,3 +30,7 @@ leaf-once = record {
   asks-nothing = λ κs given. tt;
   outcomes-coincide = λ κs given r r' left left' p q. (p ∙ sym q, refl);
 }
+
+-- of one table and a leaf: one line
+pub leaf-after-once : Coincide 1 leaf-after-kinds.ps leaf-after-kinds.r leaf-after-stated.Post
+leaf-after-once κs given r r' left left' p q = (p ∙ sym q, refl)

@@ -2,13 +2,16 @@
 ghost use mathlib.Core.List.{[], _∷_, _++_};
 ghost use mathlib.Core.Path.{_≡_};
 ghost use Prim.Native.Nat.{_+_, _*_, _≤_, _<_};
-ghost use lib.ListN.{length};
+ghost use lib.ListN.{length, take, drop};
 ghost use Rattle.listing.specs.Text.{decimalIn, spaced, okWord, refusedText, headingText, leafText, lineOf, Adds};
 use machine::Refusal;
 use state::FinishAnswer;
 
 // How many digits the largest number of 64 bits has.
 const DIGITS: usize = 20;
+
+// How many numbers a leaf's record has.
+const NUMBERS: usize = 6;
 
 const SPACE: u8 = 32;
 
@@ -118,4 +121,21 @@ pub fn leaf_line(number: u64, numbers: [u64; 6]) -> Line
     ensures { λ r. ⌜ r ≡ lineOf (leafText number numbers) ⌝ }
 {
     with_numbers(with_decimal(starting(b""), number, DIGITS), &numbers)
+}
+
+// The line of the leaf with so many before it, from its record in the leaf table.
+pub fn leaf_after(table: &[u64], i: usize) -> Line
+    requires { ⌜ 6 * i + 6 ≤ length (now table) ⌝ }
+    ensures { λ r. ⌜ r ≡ lineOf (leafText (i + 1) (take 6 (drop (6 * i) (now (table .entry))))) ⌝ }
+{
+    let at = NUMBERS * i;
+    let numbers = [
+        table[at],
+        table[at + 1],
+        table[at + 2],
+        table[at + 3],
+        table[at + 4],
+        table[at + 5],
+    ];
+    leaf_line((i + 1) as u64, numbers)
 }

@@ -3,6 +3,7 @@ use data::text::part;
 use libc::STDOUT_FILENO;
 use listing::Line;
 use listing::heading;
+use listing::leaf_after;
 use listing::leaf_line;
 use listing::refused_line;
 use lookup::LookupAnswer;
@@ -43,20 +44,11 @@ pub fn print_fed(answer: FeedAnswer) {
     print(b";");
 }
 
-// The record of leaf i, counted from 0, after a `/`.
+// The line of the leaf with so many before it, after a `/`.
 fn print_leaf(table: &[u64], i: usize) {
     if i < table.len() / NUMBERS {
-        let at = NUMBERS * i;
-        let record = [
-            table[at],
-            table[at + 1],
-            table[at + 2],
-            table[at + 3],
-            table[at + 4],
-            table[at + 5],
-        ];
         print(b"/");
-        print_line(leaf_line((i + 1) as u64, record));
+        print_line(leaf_after(table, i));
     }
 }
 

@@ -1,13 +1,13 @@
--- `list::leaf_after` meets its contract.
+-- `leaf_after` meets its contract.
 use Prim.Native.Nat.{ℕ, _+_, _*_}
 use mathlib.Core.Path.{ap, _∙_}
 use mathlib.Core.List.{List}
 use native.Mathlib.Omega.{arith}
 use Rattle.listing.specs.Text.{leafText, lineOf}
-use Rattle.list.proofs.Rows.{six}
+use Rattle.listing.proofs.Rows.{six}
 use borrow.Author.Needs.{needs}
-use Rattle.list.proofs.leaf_after.Statement.{statement}
-use Rattle.list.proofs.leaf_after.Tie as tie
+use Rattle.listing.proofs.leaf_after.Statement.{statement}
+use Rattle.listing.proofs.leaf_after.Tie as tie
 
 mul-at : tie.Need-mul-at
 mul-at c = search needs
