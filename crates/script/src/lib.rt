@@ -7,11 +7,12 @@
 // t n: from here on, n numbers of leaf table are lent
 // w at,hex: bytes are put into the work area
 // n at,number: a number is put into the leaf table
-// S, M, R, A, E with numbers: a state (crate `states`)
+// S, M, R, A, E with numbers: a state (crate `data`, `states`)
 use data::buffers::BYTE;
 use data::buffers::NUMBER;
 use data::buffers::lent_bytes;
 use data::buffers::lent_numbers;
+use data::states::state_of;
 use data::text::letter;
 use data::text::nth;
 use data::text::part;
@@ -26,7 +27,6 @@ use feed::start;
 use lookup::lookup;
 use state::FeedAnswer;
 use state::State;
-use states::state_of;
 use trial::lent::change_lent;
 use trial::prints::print_end;
 use trial::prints::print_fed;
