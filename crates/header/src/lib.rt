@@ -12,10 +12,14 @@ use machine::Head;
 use machine::Header;
 use machine::Refusal;
 
-// The types `styp` and `sidx`, as the numbers that their letters spell.
-const STYP: u64 = 1937013104;
+// The types of boxes at a segment's top level, as the numbers that their letters spell.
+pub const STYP: u64 = 1937013104;
 
-const SIDX: u64 = 1936286840;
+pub const SIDX: u64 = 1936286840;
+
+pub const MOOF: u64 = 1836019558;
+
+pub const MDAT: u64 = 1835295092;
 
 // What a byte makes of a header: it is taken, or it is refused.
 pub enum HeadStep {

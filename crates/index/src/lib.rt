@@ -1,13 +1,18 @@
 // An index box byte by byte, the top one or an inner one: its numbers, then its entries, each byte of which is stored as read.
 use machine::Refusal;
 use state::Draft;
+use state::ENTRY_BYTES;
 use state::EntryPart;
 use state::Index;
 use state::IndexPart;
+use state::LEVEL_BYTES;
+use state::LIMIT;
+use state::MOST_ENTRIES;
 use state::Sidx;
 use state::Slot;
 use state::Span;
 use state::Sums;
+use state::TYPE_BIT;
 use state::Top;
 ghost use mathlib.Core.Path.{_≡_};
 ghost use mathlib.Core.List.{List};
@@ -23,16 +28,6 @@ ghost use Rattle.state.specs.Sidx.{Place, partOf, wideMore, closeSidx, fieldEnd
 ghost use Rattle.state.specs.Ranges.{Within, sidxBounds, indexMost};
 ghost use Rattle.state.specs.Calls.{flowOf};
 ghost use Rattle.index.specs.Views.{placeOf, viewIndex, refusalIndex, Shallow, Timely, Summed};
-
-const LIMIT: u64 = 268435456;
-
-const MOST_ENTRIES: u64 = 1024;
-
-const ENTRY_BYTES: u64 = 12;
-
-const LEVEL_BYTES: u64 = 12288;
-
-const TYPE_BIT: u64 = 2147483648;
 
 const LAST_TIME: u64 = 18446744073709551615;
 

@@ -17,6 +17,8 @@ ghost use Rattle.index.specs.Views.{viewIndex};
 ghost use Rattle.inner.specs.Views.{boxOf, viewInner, headInner, bodyInner, boxBounds};
 use header::HeadSo;
 use header::HeadStep;
+use header::SIDX;
+use header::STYP;
 use index::IndexSo;
 use index::IndexStep;
 use index::Where;
@@ -30,11 +32,6 @@ use state::Top;
 
 // The most levels of indexes, with the top one.
 const LEVELS: u64 = 4;
-
-// The types of boxes, as the numbers that their letters spell.
-const STYP: u64 = 1937013104;
-
-const SIDX: u64 = 1936286840;
 
 // What a byte makes of the first box of an index entry: it goes on, the inner index is read, or it is refused.
 pub enum InnerStep {

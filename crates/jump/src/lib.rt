@@ -1,5 +1,6 @@
 // Skipped bodies, passed at once: where the one at hand ends, and how many of the bytes there pass with it.
 use state::GapBoxes;
+use state::LIMIT;
 use state::LeafBody;
 use state::LeafBoxes;
 use state::MoofBody;
@@ -13,8 +14,6 @@ use state::TrafBoxes;
 ghost use mathlib.Core.Path.{_≡_};
 ghost use Rattle.jump.specs.Passes.{passes, passedOn, Fitting};
 ghost use Rattle.state.specs.Jump.{trafSkips, moofSkips, leafSkips, openingSkips, gapSkips, skips, least, passing};
-
-const LIMIT: u64 = 268435456;
 
 // Where the skipped body ends, at each level; 0 where none is being skipped.
 fn traf_skips(s: TrafBoxes) -> u64

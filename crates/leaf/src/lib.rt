@@ -2,6 +2,10 @@
 // leaf, so that no function here takes it; of the leaf table only whether it has room for one more leaf is told.
 use header::HeadSo;
 use header::HeadStep;
+use header::MDAT;
+use header::MOOF;
+use header::SIDX;
+use header::STYP;
 use header::head_byte;
 use header::length_flaw;
 use header::refused_head;
@@ -38,15 +42,7 @@ ghost use Rattle.state.specs.Ranges.{Within, moofBodyBounds, moofBounds, leafBo
 ghost use Rattle.track.specs.Track.{viewTrack};
 ghost use Rattle.leaf.specs.Leaf.{passedOf, viewMoofBody, viewMoof, viewLeafBody, viewLeaf, RoomIs, afterBody, afterHeader, afterHead, lackOf};
 
-// The types of the boxes that are known in a leaf and in a `moof`.
-const STYP: u64 = 1937013104;
-
-const SIDX: u64 = 1936286840;
-
-const MOOF: u64 = 1836019558;
-
-const MDAT: u64 = 1835295092;
-
+// The type `traf`, as the number that its letters spell.
 const TRAF: u64 = 1953653094;
 
 // What a box gives to the list that it stands in: nothing, or the decode times seen so far.

@@ -13,19 +13,15 @@ ghost use Rattle.state.specs.Levels as defs;
 ghost use Rattle.state.specs.Stages.{leafRow};
 ghost use Rattle.state.specs.Ranges.{Within, levelsBounds};
 ghost use Rattle.levels.specs.Views.{entryOf, readOf, openOf, stillFour};
+use state::ENTRY_BYTES;
+use state::LEVEL_BYTES;
 use state::Level;
 use state::Levels;
+use state::MOST_RECORDS;
 use state::Slot;
-
-const TYPE_BIT: u64 = 2147483648;
-
-const LEVEL_BYTES: u64 = 12288;
-
-const ENTRY_BYTES: u64 = 12;
+use state::TYPE_BIT;
 
 const RECORD_NUMBERS: u64 = 6;
-
-const MOST_RECORDS: u64 = 4096;
 
 // An entry as it stands in the work area.
 pub struct Entry {

@@ -12,10 +12,8 @@ use listing::heading;
 use listing::leaf_after;
 use state::FeedAnswer;
 use state::FinishAnswer;
+use state::NUMBERS;
 use state::State;
-
-// How many numbers a leaf's record has.
-const NUMBERS: usize = 6;
 
 // Each read but the last gives a byte at least, and a feed refuses byte 268,435,457 if none before it: no run reads more often.
 const TURNS: u64 = 268435458;

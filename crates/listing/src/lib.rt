@@ -6,12 +6,10 @@ ghost use lib.ListN.{length, take, drop};
 ghost use Rattle.listing.specs.Text.{decimalIn, spaced, okWord, refusedText, headingText, leafText, lineOf, Adds};
 use machine::Refusal;
 use state::FinishAnswer;
+use state::NUMBERS;
 
 // How many digits the largest number of 64 bits has.
 const DIGITS: usize = 20;
-
-// How many numbers a leaf's record has.
-const NUMBERS: usize = 6;
 
 const SPACE: u8 = 32;
 

@@ -8,10 +8,8 @@ ghost use Rattle.segment.specs.Constants.{recordNumbers};
 ghost use Rattle.machine.specs.Faults.{refusal};
 ghost use Rattle.lookup.specs.Lookup.{recordAt, covers, outside, lookIn, lookupState, lookupOf};
 use machine::Refusal;
+use state::NUMBERS;
 use state::State;
-
-// How many numbers a leaf's record has.
-const NUMBERS: usize = 6;
 
 // Where among them its start stands.
 const START: usize = 2;

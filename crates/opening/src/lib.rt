@@ -22,6 +22,10 @@ ghost use Rattle.index.specs.Views.{viewIndex};
 ghost use Rattle.opening.specs.Views.{viewGap, viewOpening, headGap, bodyGap, headOpening, bodyOpening};
 use header::HeadSo;
 use header::HeadStep;
+use header::MDAT;
+use header::MOOF;
+use header::SIDX;
+use header::STYP;
 use index::IndexSo;
 use index::IndexStep;
 use index::Where;
@@ -30,21 +34,11 @@ use machine::Header;
 use machine::Refusal;
 use state::GapBoxes;
 use state::Index;
+use state::LIMIT;
 use state::OpeningBody;
 use state::OpeningBoxes;
 use state::Span;
 use state::StypPart;
-
-const LIMIT: u64 = 268435456;
-
-// The types of boxes, as the numbers that their letters spell.
-const STYP: u64 = 1937013104;
-
-const SIDX: u64 = 1936286840;
-
-const MOOF: u64 = 1836019558;
-
-const MDAT: u64 = 1835295092;
 
 // What a byte makes of the boxes up to the top index: they go on, the top index is read, or it is refused.
 pub enum OpeningStep {

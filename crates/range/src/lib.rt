@@ -18,10 +18,13 @@ use state::EntryPart;
 use state::GapBoxes;
 use state::IndexPart;
 use state::InnerBox;
+use state::LIMIT;
 use state::LeafBody;
 use state::LeafBoxes;
 use state::Level;
 use state::Levels;
+use state::MOST_ENTRIES;
+use state::MOST_RECORDS;
 use state::MoofBody;
 use state::MoofBoxes;
 use state::OpeningBody;
@@ -31,22 +34,11 @@ use state::Slot;
 use state::Stage;
 use state::State;
 use state::Sums;
+use state::TYPE_BIT;
 use state::Top;
 use state::TrafBody;
 use state::TrafBoxes;
 use state::TrafPart;
-
-// The most bytes a segment has.
-const LIMIT: u64 = 268435456;
-
-// The most leaves listed.
-const RECORDS: u64 = 4096;
-
-// The most entries of an index.
-const ENTRIES: u64 = 1024;
-
-// Sizes of entries, of 31 bits, are below this.
-const TYPE_BIT: u64 = 2147483648;
 
 // Numbers of 32 bits are below this.
 const WORD: u64 = 4294967296;
@@ -295,7 +287,7 @@ fn sums_fit(e: EntryPart, s: Sums) -> bool
     if s.count <= s.next {
         return false;
     }
-    if ENTRIES < s.count {
+    if MOST_ENTRIES < s.count {
         return false;
     }
     let sizes = sizes_summed(e, s.next);
@@ -379,7 +371,7 @@ fn top_fits(t: Top) -> bool
 fn level_fits(l: Level) -> bool
     ensures { λ r. ⌜ r ≡ within (levelBounds l) ⌝ }
 {
-    both(at_most(l.next, l.count), at_most(l.count, ENTRIES))
+    both(at_most(l.next, l.count), at_most(l.count, MOST_ENTRIES))
 }
 
 fn two_fit(a: Level, b: Level) -> bool
@@ -497,7 +489,7 @@ fn stage_fits(s: Stage, at: u64) -> bool
 fn counts_fit(most: u64, count: u64, leaves: u64) -> bool
     ensures { λ r. ⌜ r ≡ within (atMost count most ∷ atMost leaves mostRecords ∷ []) ⌝ }
 {
-    both(at_most(count, most), at_most(leaves, RECORDS))
+    both(at_most(count, most), at_most(leaves, MOST_RECORDS))
 }
 
 fn refused_fits(count: u64, leaves: u64, x: Refusal) -> bool

@@ -4,6 +4,26 @@
 use machine::Head;
 use machine::Refusal;
 
+// The most bytes a segment has.
+pub const LIMIT: u64 = 268435456;
+
+// The most entries of an index.
+pub const MOST_ENTRIES: u64 = 1024;
+
+// The most leaves listed.
+pub const MOST_RECORDS: u64 = 4096;
+
+// How many numbers a leaf's record has.
+pub const NUMBERS: usize = 6;
+
+// An entry's bytes in the work area, and those of a level's part of it.
+pub const ENTRY_BYTES: u64 = 12;
+
+pub const LEVEL_BYTES: u64 = 12288;
+
+// The bit of an entry's first word that says its type; sizes are below it.
+pub const TYPE_BIT: u64 = 2147483648;
+
 // A box: its first byte and its end.
 pub struct Span {
     pub pos: u64,

@@ -3,6 +3,7 @@ use machine::Refusal;
 use onward::Running;
 use onward::StageStep;
 use stage::stage_byte;
+use state::LIMIT;
 use state::Stage;
 use state::State;
 use state::Top;
@@ -15,8 +16,6 @@ ghost use Rattle.state.specs.Calls.{out, feedState};
 ghost use Rattle.state.specs.Ranges.{InRange};
 ghost use Rattle.state.specs.declared.State.the-variants as state;
 ghost use Rattle.step.specs.Answers.{answered, stepped};
-
-const LIMIT: u64 = 268435456;
 
 // Row 3: the byte past the limit.
 fn past_limit(leaves: u64) -> State

@@ -11,8 +11,7 @@ use lookup::Record;
 use machine::Refusal;
 use state::FeedAnswer;
 use state::FinishAnswer;
-
-const NUMBERS: usize = 6;
+use state::NUMBERS;
 
 pub fn print(text: &[u8]) {
     io::write_all(STDOUT_FILENO, text);
