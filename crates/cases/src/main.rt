@@ -1,5 +1,5 @@
-// Runs the cases of document 01 that no theorem states, and prints a line for each: what the reader gives.
-// The file `stdout` has what document 01 asks for. A line has `differs` or `not kept` only where the reader fails it.
+// Runs document 01's cases, the vectors, real segments and scripts of calls, and prints a line for each: what the reader gives.
+// The file `stdout` has what document 01 asks for. A line has `differs` only where a reading in pieces is not that of the whole.
 mod lines;
 
 use cuttings::Tally;

@@ -1,7 +1,7 @@
 // A segment read whole, printed, and read again in pieces: byte by byte, and in two pieces cut at every place where it is short.
 // Every reading starts with buffers that hold the same.
-use data::buffers::BYTE;
-use data::buffers::NUMBER;
+use data::buffers::FILL_BYTE;
+use data::buffers::FILL_NUMBER;
 use data::buffers::fill_levels;
 use data::buffers::fill_numbers;
 use data::buffers::same_bytes;
@@ -99,8 +99,8 @@ fn reads_alike(segment: &[u8], cut: Cutting, end: End, work: &mut [u8], table: &
 
 // Byte by byte; the whole work area and the whole leaf table are compared.
 fn bytes_alike(segment: &[u8], end: End, work: &[u8], table: &[u64]) -> bool {
-    let mut own_work = [BYTE; 49152];
-    let mut own_table = [NUMBER; 1536];
+    let mut own_work = [FILL_BYTE; 49152];
+    let mut own_table = [FILL_NUMBER; 1536];
     let cut = Cutting {
         pieces: segment.len(),
         first: 1,
@@ -165,8 +165,8 @@ fn check_cuts(segment: &[u8], end: End, work: &[u8], table: &[u64]) -> u64 {
     if SHORT < n {
         return 0;
     }
-    let mut own_work = [BYTE; 49152];
-    let mut own_table = [NUMBER; 1536];
+    let mut own_work = [FILL_BYTE; 49152];
+    let mut own_table = [FILL_NUMBER; 1536];
     run_cuts(
         n + 1,
         segment,
@@ -203,8 +203,8 @@ fn print_taken(end: End) {
 
 // A segment with its listing, and where it is asked for the byte at which its fault is met.
 pub fn run_segment(segment: &[u8], placed: bool, tally: Tally) -> Tally {
-    let mut work = [BYTE; 49152];
-    let mut table = [NUMBER; 1536];
+    let mut work = [FILL_BYTE; 49152];
+    let mut table = [FILL_NUMBER; 1536];
     let end = read_whole(segment, &mut work, &mut table);
     print(b" ");
     if placed {

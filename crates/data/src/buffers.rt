@@ -4,9 +4,9 @@ use crate::text::part;
 const LEVEL_BYTES: usize = 12288;
 
 // What every byte of a work area and every number of a table is before a reading; neither is 0.
-pub const BYTE: u8 = 165;
+pub const FILL_BYTE: u8 = 165;
 
-pub const NUMBER: u64 = 11936128518282651045;
+pub const FILL_NUMBER: u64 = 11936128518282651045;
 
 // The first n bytes, or all that there are.
 pub fn lent_bytes(work: &mut [u8], n: usize) -> &mut [u8] {
@@ -29,7 +29,7 @@ pub fn lent_numbers(table: &mut [u64], n: usize) -> &mut [u64] {
 fn fill_bytes(bytes: &mut [u8]) {
     let mut i = 0;
     while i < bytes.len() {
-        bytes[i] = BYTE;
+        bytes[i] = FILL_BYTE;
         i += 1;
     }
 }
@@ -58,7 +58,7 @@ pub fn fill_levels(work: &mut [u8], n: usize) {
 pub fn fill_numbers(table: &mut [u64], n: usize) {
     let mut i = 0;
     while i < table.len() && i < n {
-        table[i] = NUMBER;
+        table[i] = FILL_NUMBER;
         i += 1;
     }
 }

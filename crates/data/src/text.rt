@@ -99,7 +99,7 @@ fn with_digit(n: u64, c: u8) -> u64 {
     18446744073709551615
 }
 
-pub fn number(digits: &[u8]) -> u64 {
+fn number(digits: &[u8]) -> u64 {
     let mut n = 0;
     let mut i = 0;
     while i < digits.len() {

@@ -19,8 +19,6 @@ use Rattle.header.proofs.head_byte.Kinds as byte-kinds
 use Rattle.header.proofs.head_byte.Reads as byte-stated
 use Rattle.header.proofs.size_flaw.Kinds as size-kinds
 use Rattle.header.proofs.size_flaw.Reads as size-stated
-use Rattle.header.proofs.body_length.Kinds as body-kinds
-use Rattle.header.proofs.body_length.Reads as body-stated
 use Rattle.header.proofs.length_flaw.Kinds as length-kinds
 use Rattle.header.proofs.length_flaw.Reads as length-stated
 
@@ -59,13 +57,6 @@ head-byte-once = λ κs given r r' left left' p q.
 -- of one container's end and header: one number
 pub size-flaw-once : OneOutcome 0 size-kinds.ps size-kinds.r size-stated.Pre size-stated.Post
 size-flaw-once = record {
-  asks-nothing = λ κs given. tt;
-  outcomes-coincide = λ κs given r r' left left' p q. (p ∙ sym q, refl);
-}
-
--- of one header: one length
-pub body-length-once : OneOutcome 0 body-kinds.ps body-kinds.r body-stated.Pre body-stated.Post
-body-length-once = record {
   asks-nothing = λ κs given. tt;
   outcomes-coincide = λ κs given r r' left left' p q. (p ∙ sym q, refl);
 }

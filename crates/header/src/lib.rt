@@ -195,7 +195,7 @@ pub fn size_flaw(end: u64, h: Header) -> u64
 }
 
 // How long a box's body is: 0 where its size is under its header's.
-pub fn body_length(h: Header) -> u64
+fn body_length(h: Header) -> u64
     ensures { λ r. ⌜ r ≡ bodyLength h ⌝ }
 {
     if h.size < h.head {

@@ -5,6 +5,7 @@ use state::ENTRY_BYTES;
 use state::EntryPart;
 use state::Index;
 use state::IndexPart;
+use state::LAST_TIME;
 use state::LEVEL_BYTES;
 use state::LIMIT;
 use state::MOST_ENTRIES;
@@ -28,8 +29,6 @@ ghost use Rattle.state.specs.Sidx.{Place, partOf, wideMore, closeSidx, fieldEnd
 ghost use Rattle.state.specs.Ranges.{Within, sidxBounds, indexMost};
 ghost use Rattle.state.specs.Calls.{flowOf};
 ghost use Rattle.index.specs.Views.{placeOf, viewIndex, refusalIndex, Shallow, Timely, Summed};
-
-const LAST_TIME: u64 = 18446744073709551615;
 
 // Where an index stands: on top, or under an entry, with so many indexes open around it.
 pub enum Where {
@@ -524,8 +523,7 @@ pub fn index_byte(
     requires { ⌜ Shallow p × Timely p at × Within (sidxBounds s) × (n < limit) × (workBytes ≤ length (now work)) ⌝ }
     ensures { λ r. ⌜
         ((leaves last : ℕ) (table : List ℕ) →
-        viewIndex (flowOf leaves at last (now (work .exit)) table) r
-        ≡ stepSidx (placeOf p) span s (flowOf leaves at last (now (work .entry)) table) n b)
+        viewIndex (flowOf leaves at last (now (work .exit)) table) r ≡ stepSidx (placeOf p) span s (flowOf leaves at last (now (work .entry)) table) n b)
         ⌝ }
 {
     match s {

@@ -11,10 +11,10 @@ use machine::Refusal;
 use state::NUMBERS;
 use state::State;
 
-// Where among them its start stands.
+// Where in a record its start stands.
 const START: usize = 2;
 
-// Where among them its duration stands.
+// Where in a record its duration stands.
 const DURATION: usize = 3;
 
 // Refused: a number of the state is out of its range.

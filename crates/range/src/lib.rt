@@ -18,6 +18,7 @@ use state::EntryPart;
 use state::GapBoxes;
 use state::IndexPart;
 use state::InnerBox;
+use state::LAST_TIME;
 use state::LIMIT;
 use state::LeafBody;
 use state::LeafBoxes;
@@ -42,9 +43,6 @@ use state::TrafPart;
 
 // Numbers of 32 bits are below this.
 const WORD: u64 = 4294967296;
-
-// The highest number of 64 bits.
-const HIGHEST: u64 = 18446744073709551615;
 
 fn both(a: bool, b: bool) -> bool
     ensures { λ r. ⌜ r ≡ (a && b) ⌝ }
@@ -77,7 +75,7 @@ fn less(a: u64, b: u64) -> bool
 fn sum_fits(a: u64, b: u64) -> bool
     ensures { λ r. ⌜ r ≡ within (below (a + b) timeLimit ∷ []) ⌝ }
 {
-    if HIGHEST - a < b {
+    if LAST_TIME - a < b {
         return false;
     }
     true

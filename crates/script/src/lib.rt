@@ -8,8 +8,8 @@
 // w at,hex: bytes are put into the work area
 // n at,number: a number is put into the leaf table
 // S, M, R, A, E with numbers: a state (crate `data`, `states`)
-use data::buffers::BYTE;
-use data::buffers::NUMBER;
+use data::buffers::FILL_BYTE;
+use data::buffers::FILL_NUMBER;
 use data::buffers::lent_bytes;
 use data::buffers::lent_numbers;
 use data::states::state_of;
@@ -93,7 +93,7 @@ fn run_words(words: &[u8], brand: [u8; 4], bytes: &[u8], work: &mut [u8], table:
 
 // A script, with a table that has room for 4,097 leaves.
 pub fn run_script(words: &[u8], brand: &[u8], bytes: &[u8]) {
-    let mut work = [BYTE; 49152];
-    let mut table = [NUMBER; 24582];
+    let mut work = [FILL_BYTE; 49152];
+    let mut table = [FILL_NUMBER; 24582];
     run_words(words, brand_of(brand), bytes, &mut work, &mut table);
 }

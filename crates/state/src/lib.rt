@@ -7,6 +7,9 @@ use machine::Refusal;
 // The most bytes a segment has.
 pub const LIMIT: u64 = 268435456;
 
+// The highest time.
+pub const LAST_TIME: u64 = 18446744073709551615;
+
 // The most entries of an index.
 pub const MOST_ENTRIES: u64 = 1024;
 

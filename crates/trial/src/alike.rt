@@ -1,11 +1,12 @@
-// The end of a reading as numbers, and what the calls on the way to it and after it have to answer.
+// The end of a reading as numbers, and what feed has to answer on the way to it.
 use machine::Refusal;
 use state::FeedAnswer;
 use state::FinishAnswer;
 use state::State;
 use state::Top;
 
-const LATE: u64 = 20;
+// The number of a finish before the material's end.
+const UNFINISHED: u64 = 20;
 
 // What a state is: it goes on, the material is over, it was refused, or it was accepted.
 const READING: u64 = 0;
@@ -47,6 +48,16 @@ fn no_top() -> Top {
     }
 }
 
+fn left_as(outcome: u64, count: u64, leaves: u64, refusal: Refusal, top: Top) -> Left {
+    Left {
+        outcome,
+        count,
+        leaves,
+        refusal,
+        top,
+    }
+}
+
 fn left_by(s: State) -> Left {
     match s {
         State::Reading {
@@ -55,38 +66,16 @@ fn left_by(s: State) -> Left {
             now: _,
             last: _,
             stage: _,
-        } => Left {
-            outcome: READING,
-            count,
-            leaves,
-            refusal: no_refusal(),
-            top: no_top(),
-        },
-        State::Ended { count, leaves, top } => Left {
-            outcome: ENDED,
-            count,
-            leaves,
-            refusal: no_refusal(),
-            top,
-        },
+        } => left_as(READING, count, leaves, no_refusal(), no_top()),
+        State::Ended { count, leaves, top } => left_as(ENDED, count, leaves, no_refusal(), top),
         State::Refused {
             count,
             leaves,
             refusal,
-        } => Left {
-            outcome: REFUSED,
-            count,
-            leaves,
-            refusal,
-            top: no_top(),
-        },
-        State::Accepted { count, leaves, top } => Left {
-            outcome: ACCEPTED,
-            count,
-            leaves,
-            refusal: no_refusal(),
-            top,
-        },
+        } => left_as(REFUSED, count, leaves, refusal, no_top()),
+        State::Accepted { count, leaves, top } => {
+            left_as(ACCEPTED, count, leaves, no_refusal(), top)
+        }
     }
 }
 
@@ -101,13 +90,7 @@ pub fn end_of(answer: FinishAnswer, s: State) -> End {
 pub fn no_end() -> End {
     End {
         answer: FinishAnswer::Listed(0),
-        left: Left {
-            outcome: READING,
-            count: 0,
-            leaves: 0,
-            refusal: no_refusal(),
-            top: no_top(),
-        },
+        left: left_as(READING, 0, 0, no_refusal(), no_top()),
     }
 }
 
@@ -161,7 +144,7 @@ pub fn same_end(a: End, b: End) -> bool {
 pub fn refused_after(end: End) -> u64 {
     let left = end.left;
     let x = left.refusal;
-    if left.outcome != REFUSED || x.number == LATE {
+    if left.outcome != REFUSED || x.number == UNFINISHED {
         return 0;
     }
     left.count

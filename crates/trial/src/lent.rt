@@ -1,8 +1,8 @@
 // What is lent, changed or shown by a word of a script.
 use crate::prints::print;
 use crate::prints::print_number;
-use data::buffers::BYTE;
-use data::buffers::NUMBER;
+use data::buffers::FILL_BYTE;
+use data::buffers::FILL_NUMBER;
 use data::text::letter;
 use data::words::put_bytes;
 use data::words::put_number;
@@ -31,7 +31,7 @@ fn print_place(i: usize, within: bool) {
 
 // A byte, if it is not as it was lent; whether it is not.
 fn print_byte(b: u8, i: usize, within: bool) -> bool {
-    if b == BYTE {
+    if b == FILL_BYTE {
         return false;
     }
     print_place(i, within);
@@ -50,7 +50,7 @@ fn print_changed(work: &[u8]) {
 }
 
 fn print_one(n: u64, i: usize, within: bool) -> bool {
-    if n == NUMBER {
+    if n == FILL_NUMBER {
         return false;
     }
     print_place(i, within);
