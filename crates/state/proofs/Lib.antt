@@ -12,4 +12,6 @@ pub mod Kept
 pub mod Past
 pub mod Edges
 pub mod Jump
+pub mod Numbers
+pub mod RangeNumbers
 pub mod Phases

@@ -8,6 +8,7 @@ pub mod Levels
 pub mod Stages
 pub mod Step
 pub mod Ranges
+pub mod Numbers
 pub mod Calls
 pub mod Named
 pub mod Parts
