@@ -11,14 +11,14 @@ use Rattle.segment.specs.Constants.{timeLimit, wordLimit, workBytes}
 use Rattle.state.specs.declared.Draft.{Draft}
 use Rattle.state.specs.declared.Sums.{Sums}
 use Rattle.state.specs.declared.IndexPart.{IndexPart}
-use Rattle.state.specs.declared.IndexPart.the-variants as part
 use Rattle.state.specs.declared.EntryPart.{EntryPart}
 use Rattle.state.specs.declared.EntryPart.the-variants as entry
 use Rattle.state.specs.declared.Sidx.{Sidx}
 use Rattle.state.specs.declared.Sidx.the-variants as sidx
-use Rattle.state.specs.Sidx.{partOf, wordPlace, bytePlace, wideMore}
+use Rattle.state.specs.Sidx.{partOf, wordPlace, bytePlace}
 use Rattle.state.specs.Ranges.{Within, spelled, indexMost, sidxBounds, sizesRead, durationsRead}
 use Rattle.state.proofs.RangeTests.{spelled-last}
+use Rattle.state.proofs.RangeNumbers.{index-most}
 use Rattle.header.proofs.Steps.{spelled-small}
 use Rattle.index.specs.declared.Where.{Where}
 use Rattle.index.specs.declared.Where.the-variants as places
@@ -54,23 +54,6 @@ word-most entry.Sap = omega arith
 
 place-most : (p : Where) (e : EntryPart) (s : Sums) (more : ℕ) → Shallow p → Summed s → bytePlace (placeOf p) e s more < workBytes
 place-most p e s more h k = let l = part-most p h in let m = word-most e in omega arith
-
--- a number has at most 8 bytes
-wide-most : (wide : Bool) → wideMore wide ≤ 7
-unfolding wideMore
-wide-most true = omega arith
-wide-most false = omega arith
-
-index-most : (i : IndexPart) (wide : Bool) → indexMost i wide ≤ 7
-unfolding indexMost
-index-most part.Version wide = omega arith
-index-most part.Flags wide = omega arith
-index-most part.Id wide = omega arith
-index-most part.Scale wide = omega arith
-index-most part.Time wide = wide-most wide
-index-most part.Offset wide = wide-most wide
-index-most part.Reserved wide = omega arith
-index-most part.Count wide = omega arith
 
 -- A number before the entries: what the bytes before its last spell, and what it is once it is read.
 module _ (i : IndexPart) (d : Draft) (more acc : ℕ) (w : Within (sidxBounds (sidx.Field i d more acc))) where

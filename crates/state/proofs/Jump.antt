@@ -50,11 +50,11 @@ module _ {S R : Type 0} (r : R) (s : S) where
   skip-stays : (stop n : ℕ) (f : Flow) → suc n < stop → pick {A = Sub S R Flow Left} (leb stop (suc n)) (done r f) (go s f) ≡ go s f
   skip-stays stop n f h = pick-no (leb stop (suc n)) (done r f) (go s f) (lt-leb stop (suc n) h)
 
--- a list of boxes stays where its box's body does
+-- a list of boxes moves on, or stays, as its box's body does
 module _ {A B R Q S : Type 0} (l : Boxes A B R Q Flow Left) (wrap : A → Box B → S) where
-  body-stays : (a : A) (s : B) (f : Flow) (n b : ℕ) → l .box a .body s f n b ≡ go s f → stepBoxes l wrap a (inBody s) f n b ≡ go (wrap a (inBody s)) f
+  pub body-moves : (a : A) (s s' : B) (f g : Flow) (n b : ℕ) → l .box a .body s f n b ≡ go s' g → stepBoxes l wrap a (inBody s) f n b ≡ go (wrap a (inBody s')) g
   unfolding stepBox lift
-  body-stays a s f n b e = rw e
+  body-moves a s s' f g n b e = rw e
 
 traf-body-stays : (id : ℕ) (t : Track) (s : TrafBody) (f : Flow) (n b : ℕ) → suc n < trafBodySkips s → stepTrafBody id t s f n b ≡ go s f
 unfolding stepTrafBody trafBodySkips
@@ -65,7 +65,7 @@ traf-body-stays id t (trafs.Field p more acc) f n b h = absurd (omega arith)
 traf-stays : (id : ℕ) (span : Span) (s : TrafBoxes) (f : Flow) (n b : ℕ) → suc n < trafSkips s → stepTraf id span s f n b ≡ go s f
 unfolding stepTraf trafSkips
 traf-stays id span (trafBox.Head so x) f n b h = absurd (omega arith)
-traf-stays id span (trafBox.Body so s) f n b h = body-stays (trafBoxes id span) wrapTraf so s f n b (traf-body-stays id (so .track) s f n b h)
+traf-stays id span (trafBox.Body so s) f n b h = body-moves (trafBoxes id span) wrapTraf so s s f f n b (traf-body-stays id (so .track) s f n b h)
 
 moof-body-stays : (id : ℕ) (s : MoofBody) (f : Flow) (n b : ℕ) → suc n < moofBodySkips s → stepMoofBody id s f n b ≡ go s f
 unfolding stepMoofBody moofBodySkips lift
@@ -75,7 +75,7 @@ moof-body-stays id (moofs.Traf span s) f n b h = rw (traf-stays id span s f n b 
 moof-stays : (id end : ℕ) (s : MoofBoxes) (f : Flow) (n b : ℕ) → suc n < moofSkips s → stepMoof id end s f n b ≡ go s f
 unfolding stepMoof moofSkips
 moof-stays id end (moofBox.Head seen x) f n b h = absurd (omega arith)
-moof-stays id end (moofBox.Body seen s) f n b h = body-stays (moofBoxes id end) wrapMoof seen s f n b (moof-body-stays id s f n b h)
+moof-stays id end (moofBox.Body seen s) f n b h = body-moves (moofBoxes id end) wrapMoof seen s s f f n b (moof-body-stays id s f n b h)
 
 leaf-body-stays : (id : ℕ) (s : LeafBody) (f : Flow) (n b : ℕ) → suc n < leafBodySkips s → stepLeafBody id s f n b ≡ go s f
 unfolding stepLeafBody leafBodySkips lift
@@ -85,7 +85,7 @@ leaf-body-stays id (leaves.Moof end s) f n b h = rw (moof-stays id end s f n b h
 leaf-stays : (id : ℕ) (slot : Slot) (s : LeafBoxes) (f : Flow) (n b : ℕ) → suc n < leafSkips s → stepLeaf id slot s f n b ≡ go s f
 unfolding stepLeaf leafSkips
 leaf-stays id slot (leafBox.Head so x) f n b h = absurd (omega arith)
-leaf-stays id slot (leafBox.Body so s) f n b h = body-stays (leafBoxes id slot) wrapLeaf so s f n b (leaf-body-stays id s f n b h)
+leaf-stays id slot (leafBox.Body so s) f n b h = body-moves (leafBoxes id slot) wrapLeaf so s s f f n b (leaf-body-stays id s f n b h)
 
 opening-body-stays : (brand : ℕ) (s : OpeningBody) (f : Flow) (n b : ℕ) → suc n < openingBodySkips s → stepOpeningBody brand s f n b ≡ go s f
 unfolding stepOpeningBody openingBodySkips
@@ -96,12 +96,12 @@ opening-body-stays brand (openings.Index span s) f n b h = absurd (omega arith)
 opening-stays : (brand : ℕ) (s : OpeningBoxes) (f : Flow) (n b : ℕ) → suc n < openingSkips s → stepOpening brand s f n b ≡ go s f
 unfolding stepOpening openingSkips
 opening-stays brand (openingBox.Head branded x) f n b h = absurd (omega arith)
-opening-stays brand (openingBox.Body branded s) f n b h = body-stays (opening brand) wrapOpening branded s f n b (opening-body-stays brand s f n b h)
+opening-stays brand (openingBox.Body branded s) f n b h = body-moves (opening brand) wrapOpening branded s s f f n b (opening-body-stays brand s f n b h)
 
 gap-stays : (end : ℕ) (s : GapBoxes) (f : Flow) (n b : ℕ) → suc n < gapSkips s → stepGap end s f n b ≡ go s f
 unfolding stepGap gapSkips
 gap-stays end (gaps.Head x) f n b h = absurd (omega arith)
-gap-stays end (gaps.Body stop) f n b h = body-stays (gapBoxes end) wrapGap tt stop f n b (skip-stays tt stop stop n f h)
+gap-stays end (gaps.Body stop) f n b h = body-moves (gapBoxes end) wrapGap tt stop stop f f n b (skip-stays tt stop stop n f h)
 
 pub stage-stays : (s : Stage) (f : Flow) (n b : ℕ) → suc n < skips s → stepStage s f n b ≡ go s f
 unfolding stepStage skips lift

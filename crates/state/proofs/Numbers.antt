@@ -6,6 +6,7 @@ use mathlib.Core.Option.{Option, some, none}
 use native.Mathlib.Omega.{arith}
 use lib.ListN.{length, set, take, drop, take-append-drop, length-drop}
 use lib.Seq.{length-take-le, drop-drop}
+use Rattle.basics.specs.Bytes.{numberFrom}
 use Rattle.segment.specs.Constants.{limit}
 use Rattle.machine.specs.Faults.{unless}
 use Rattle.machine.specs.Run.{Sub, go, done, bad, lift}
@@ -42,7 +43,7 @@ use Rattle.state.specs.declared.InnerBox.{InnerBox}
 use Rattle.state.specs.declared.InnerBox.the-variants as inners
 use Rattle.state.specs.declared.Stage.{Stage}
 use Rattle.state.specs.declared.Stage.the-variants as stage
-use Rattle.state.specs.Flow.{Flow, Left, left, putAll}
+use Rattle.state.specs.Flow.{Flow, Left, left, withWork, putAll}
 use Rattle.state.specs.Levels.{depth}
 use Rattle.state.specs.Sidx.{Place, topmost, under, stepSidx}
 use Rattle.state.specs.Traf.{stepTrafBody, trafBoxes, wrapTraf, stepTraf}
@@ -50,19 +51,15 @@ use Rattle.state.specs.Leaf.{stepMoofBody, moofBoxes, wrapMoof, stepMoof
 use Rattle.state.specs.Opening.{stepOpeningBody, opening, wrapOpening, stepOpening}
 use Rattle.state.specs.Stages.{gapBoxes, wrapGap, stepGap, stepStage}
 use Rattle.state.specs.Step.{World, reading, settle, step, run}
-use Rattle.state.specs.Numbers.{Number, headNumber, sidxNumber, trafBodyNumber, trafNumber, moofBodyNumber, moofNumber, leafBodyNumber, leafNumber, openingBodyNumber, openingNumber, gapNumber, innerNumber, stageNumber, spell, keepIn, keepAll, putIn, Short}
-use Rattle.state.proofs.Jump.{past-none}
+use Rattle.state.specs.Numbers.{Number, headNumber, sidxNumber, trafBodyNumber, trafNumber, moofBodyNumber, moofNumber, leafBodyNumber, leafNumber, openingBodyNumber, openingNumber, gapNumber, innerNumber, stageNumber, keepIn, keepAll, putIn, Short}
+use Rattle.state.proofs.Jump.{body-moves, past-none}
 
--- a list of boxes moves on as the header or the body of its box does
+-- a list of boxes moves on as the header of its box does
 module _ {A B R Q S : Type 0} (l : Boxes A B R Q Flow Left) (wrap : A → Box B → S) where
   head-moves : (a : A) (h h' : Head) (f g : Flow) (n b : ℕ) → stepHead (l .box a .left) (l .box a .end) h f n b ≡ go h' g →
       stepBoxes l wrap a (inHead h) f n b ≡ go (wrap a (inHead h')) g
   unfolding stepBox lift
   head-moves a h h' f g n b e = rw e
-
-  body-moves : (a : A) (s s' : B) (f g : Flow) (n b : ℕ) → l .box a .body s f n b ≡ go s' g → stepBoxes l wrap a (inBody s) f n b ≡ go (wrap a (inBody s')) g
-  unfolding stepBox lift
-  body-moves a s s' f g n b e = rw e
 
 -- one byte of a number that is not its last, at each level
 module _ (f : Flow) (n b m a : ℕ) where
@@ -161,8 +158,8 @@ number-step n m a s f b low going = rw (past-none n low, stage-spells f n b m a 
 -- all of its bytes that are at hand but for its last: `m` more follow them, and the last
 pub number-run : (xs bytes : List ℕ) (n m a : ℕ) (s : Stage) (f : Flow) → n + length xs ≤ limit → 0 < stageNumber s .more →
     run (reading n (stageNumber s .again (m + length xs) a) f) (xs ++ bytes)
-    ≡ run (reading (n + length xs) (stageNumber s .again m (spell a xs)) (keepAll (stageNumber s .place) (m + length xs) f xs)) bytes
-unfolding run spell keepAll
+    ≡ run (reading (n + length xs) (stageNumber s .again m (numberFrom a xs)) (keepAll (stageNumber s .place) (m + length xs) f xs)) bytes
+unfolding run numberFrom keepAll
 number-run [] bytes n m a s f low going =
     let e : n + length {A = ℕ} [] ≡ n = omega arith in
     let d : m + length {A = ℕ} [] ≡ m = omega arith in
@@ -174,8 +171,8 @@ number-run (x ∷ xs) bytes n m a s f low going =
     ap (λ (k : ℕ). run (step (reading n (stageNumber s .again k a) f) x) (xs ++ bytes)) d
     ∙ ap (λ (w : World). run w (xs ++ bytes)) (number-step n (m + length xs) a s f x (omega arith) going)
     ∙ number-run xs bytes (suc n) m (a * 256 + x) s (keepIn (stageNumber s .place) f (suc (m + length xs)) x) (omega arith) going
-    ∙ ap (λ (k : ℕ). run (reading k (stageNumber s .again m (spell (a * 256 + x) xs)) (keepAll (stageNumber s .place) (m + length xs) (keepIn (stageNumber s .place) f (suc (m + length xs)) x) xs)) bytes) e
-    ∙ ap (λ (g : Flow). run (reading (n + length (x ∷ xs)) (stageNumber s .again m (spell (a * 256 + x) xs)) g) bytes)
+    ∙ ap (λ (k : ℕ). run (reading k (stageNumber s .again m (numberFrom (a * 256 + x) xs)) (keepAll (stageNumber s .place) (m + length xs) (keepIn (stageNumber s .place) f (suc (m + length xs)) x) xs)) bytes) e
+    ∙ ap (λ (g : Flow). run (reading (n + length (x ∷ xs)) (stageNumber s .again m (numberFrom (a * 256 + x) xs)) g) bytes)
     (ap (λ (k : ℕ). keepAll (stageNumber s .place) k (keepIn (stageNumber s .place) f (suc (m + length xs)) x) xs) p
     ∙ ap (λ (k : ℕ). keepAll (stageNumber s .place) (m + length (x ∷ xs) - 1) (keepIn (stageNumber s .place) f k x) xs) (sym d))
 
@@ -252,9 +249,6 @@ stage-same (stage.Entry top ls) = refl
 stage-same (stage.Leaf top ls slot s) = ap (stage.Leaf top ls slot) (leaf-same s)
 stage-same (stage.Inner top ls slot s) = ap (stage.Inner top ls slot) (inner-same top ls slot s)
 
-abbrev withWork : Flow → List ℕ → Flow
-withWork f work = record { leaves = f .leaves; now = f .now; last = f .last; work = work; table = f .table }
-
 -- what they leave is the work area with them at their places
 kept-put : (place : Option ℕ) (more : ℕ) (f : Flow) (bs : List ℕ) → length bs ≤ more → Short place more → keepAll place more f bs ≡ withWork f (putIn place more (f .work) bs)
 unfolding keepAll keepIn putIn Short putAll
@@ -271,7 +265,7 @@ pub number-taken : (bytes : List ℕ) (i k n : ℕ) (s : Stage) (f : Flow) → l
     i + k ≤ length bytes → n + k ≤ limit → k ≤ x .more → 0 < x .more → Short (x .place) (x .more) →
     let bs : List ℕ = take k (drop i bytes) in
     run (reading n s f) (drop i bytes)
-    ≡ run (reading (n + k) (x .again (x .more - k) (spell (x .acc) bs)) (withWork f (putIn (x .place) (x .more) (f .work) bs))) (drop (i + k) bytes)
+    ≡ run (reading (n + k) (x .again (x .more - k) (numberFrom (x .acc) bs)) (withWork f (putIn (x .place) (x .more) (f .work) bs))) (drop (i + k) bytes)
 number-taken bytes i k n s f there low most going short =
     let x : Number Stage = stageNumber s in
     let bs : List ℕ = take k (drop i bytes) in
@@ -281,7 +275,7 @@ number-taken bytes i k n s f there low most going short =
     ∙ ap (λ (m : ℕ). run (reading n (x .again m (x .acc)) f) (drop i bytes)) d
     ∙ ap (λ (xs : List ℕ). run (reading n (x .again ((x .more - k) + length bs) (x .acc)) f) xs) (sym (take-append-drop k (drop i bytes)))
     ∙ number-run bs (drop k (drop i bytes)) n (x .more - k) (x .acc) s f (rw e low) going
-    ∙ ap (λ (m : ℕ). run (reading (n + length bs) (x .again (x .more - k) (spell (x .acc) bs)) (keepAll (x .place) m f bs)) (drop k (drop i bytes))) (sym d)
-    ∙ ap (λ (g : Flow). run (reading (n + length bs) (x .again (x .more - k) (spell (x .acc) bs)) g) (drop k (drop i bytes))) (kept-put (x .place) (x .more) f bs (rw e most) short)
-    ∙ ap (λ (m : ℕ). run (reading (n + m) (x .again (x .more - k) (spell (x .acc) bs)) (withWork f (putIn (x .place) (x .more) (f .work) bs))) (drop k (drop i bytes))) e
-    ∙ ap (λ (xs : List ℕ). run (reading (n + k) (x .again (x .more - k) (spell (x .acc) bs)) (withWork f (putIn (x .place) (x .more) (f .work) bs))) xs) (drop-drop k i bytes)
+    ∙ ap (λ (m : ℕ). run (reading (n + length bs) (x .again (x .more - k) (numberFrom (x .acc) bs)) (keepAll (x .place) m f bs)) (drop k (drop i bytes))) (sym d)
+    ∙ ap (λ (g : Flow). run (reading (n + length bs) (x .again (x .more - k) (numberFrom (x .acc) bs)) g) (drop k (drop i bytes))) (kept-put (x .place) (x .more) f bs (rw e most) short)
+    ∙ ap (λ (m : ℕ). run (reading (n + m) (x .again (x .more - k) (numberFrom (x .acc) bs)) (withWork f (putIn (x .place) (x .more) (f .work) bs))) (drop k (drop i bytes))) e
+    ∙ ap (λ (xs : List ℕ). run (reading (n + k) (x .again (x .more - k) (numberFrom (x .acc) bs)) (withWork f (putIn (x .place) (x .more) (f .work) bs))) xs) (drop-drop k i bytes)

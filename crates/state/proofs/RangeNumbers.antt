@@ -48,7 +48,7 @@ widen most more acc h w =
     let k : 256 ^ (most - more) ≤ 256 ^ (7 - more) = pow-le-pow-right (omega arith) j in
     (omega (arith, w .0, h), (omega (arith, w .1 .0), tt))
 
-index-most : (i : IndexPart) (wide : Bool) → indexMost i wide ≤ 7
+pub index-most : (i : IndexPart) (wide : Bool) → indexMost i wide ≤ 7
 unfolding indexMost wideMore
 index-most part.Version wide = omega arith
 index-most part.Flags wide = omega arith
@@ -61,7 +61,7 @@ index-most part.Offset false = omega arith
 index-most part.Reserved wide = omega arith
 index-most part.Count wide = omega arith
 
-traf-most : (p : TrafPart) → trafMost p ≤ 7
+pub traf-most : (p : TrafPart) → trafMost p ≤ 7
 unfolding trafMost
 traf-most (trafPart.HeadFlags end) = omega arith
 traf-most (trafPart.TrackId end) = omega arith

@@ -27,9 +27,12 @@ left f = record { leaves = f .leaves; work = f .work; table = f .table }
 abbrev pub withNow : Flow → ℕ → Flow
 withNow f t = record { leaves = f .leaves; now = t; last = f .last; work = f .work; table = f .table }
 
+abbrev pub withWork : Flow → List ℕ → Flow
+withWork f work = record { leaves = f .leaves; now = f .now; last = f .last; work = work; table = f .table }
+
 -- a byte of the work area
 abbrev pub stored : Flow → ℕ → ℕ → Flow
-stored f i b = record { leaves = f .leaves; now = f .now; last = f .last; work = set (f .work) i b; table = f .table }
+stored f i b = withWork f (set (f .work) i b)
 
 -- "Room is length/6 rounded down, at most 4,096."
 unfoldable pub room : List ℕ → ℕ

@@ -117,11 +117,6 @@ stageNumber (stage.Entry top ls) = absent (stage.Entry top ls)
 stageNumber (stage.Leaf top ls slot s) = inside (stage.Leaf top ls slot) (leafNumber s)
 stageNumber (stage.Inner top ls slot s) = inside (stage.Inner top ls slot) (innerNumber top ls slot s)
 
--- what a number spells with some bytes more
-unfoldable pub spell : ℕ → List ℕ → ℕ
-spell a [] = a
-spell a (b ∷ bs) = spell (a * 256 + b) bs
-
 -- what a byte leaves in what flows, told how many follow it: an entry's numbers have four bytes
 unfoldable pub keepIn : Option ℕ → Flow → ℕ → ℕ → Flow
 keepIn none f m b = f

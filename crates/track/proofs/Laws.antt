@@ -28,6 +28,7 @@ use Rattle.state.specs.declared.Track.the-variants as track
 use Rattle.state.specs.declared.TrafPart.{TrafPart}
 use Rattle.state.specs.declared.TrafPart.the-variants as part
 use Rattle.state.specs.declared.TrafBody.the-variants as body
+use Rattle.state.proofs.RangeNumbers.{traf-most}
 use Rattle.track.specs.Track.{timedTrack, besideTraf, afterBody, afterHeader}
 use Rattle.header.specs.Flaws.{flawOf}
 use Rattle.header.proofs.Steps.{spelled-small}
@@ -49,14 +50,6 @@ pub time-flags : (id : ℕ) (t : Track) (pos : ℕ) (wide : Bool) (v : ℕ) (f :
 unfolding trafEnds pick
 time-flags id t pos true v f n = refl
 time-flags id t pos false v f n = refl
-
-traf-most : (p : TrafPart) → trafMost p ≤ 7
-unfolding trafMost
-traf-most (part.HeadFlags end) = omega arith
-traf-most (part.TrackId end) = omega arith
-traf-most (part.Version pos end) = omega arith
-traf-most (part.TimeFlags pos wide) = omega arith
-traf-most (part.Time pos) = omega arith
 
 -- what the bytes before a number's last spell
 pub field-small : (p : TrafPart) (more acc : ℕ) → Within (trafBodyBounds (body.Field p more acc)) → acc < 72057594037927936
