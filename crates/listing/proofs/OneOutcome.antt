@@ -1,6 +1,6 @@
--- The contracts of `heading`, `refused_line`, `leaf_line` and `leaf_after` themselves, as the check reads them: two outcomes that each allows coincide, and but for the last, which requires the record, each asks nothing.
+-- The contracts of `heading`, `refused_line`, `leaf_line` and `leaf_after` themselves, as the check reads them: each asks nothing, and two outcomes that it allows coincide.
 use mathlib.Core.Path.{refl, sym, _∙_}
-use Rattle.basics.specs.Outcome.{OneOutcome, Coincide}
+use Rattle.basics.specs.Outcome.{OneOutcome}
 use Rattle.listing.proofs.heading.Kinds as heading-kinds
 use Rattle.listing.proofs.heading.Reads as heading-stated
 use Rattle.listing.proofs.refused_line.Kinds as refused-kinds
@@ -32,5 +32,8 @@ leaf-once = record {
 }
 
 -- of one table and a leaf: one line
-pub leaf-after-once : Coincide 1 leaf-after-kinds.ps leaf-after-kinds.r leaf-after-stated.Post
-leaf-after-once κs given r r' left left' p q = (p ∙ sym q, refl)
+pub leaf-after-once : OneOutcome 1 leaf-after-kinds.ps leaf-after-kinds.r leaf-after-stated.Pre leaf-after-stated.Post
+leaf-after-once = record {
+  asks-nothing = λ κs given. tt;
+  outcomes-coincide = λ κs given r r' left left' p q. (p ∙ sym q, refl);
+}

@@ -3,7 +3,7 @@ ghost use mathlib.Core.List.{[], _∷_, _++_};
 ghost use mathlib.Core.Path.{_≡_};
 ghost use Prim.Native.Nat.{_+_, _*_, _≤_, _<_};
 ghost use lib.ListN.{length, take, drop};
-ghost use Rattle.listing.specs.Text.{decimalIn, spaced, okWord, refusedText, headingText, leafText, lineOf, Adds};
+ghost use Rattle.listing.specs.Text.{decimalIn, spaced, okWord, refusedText, headingText, leafText, leafAfter, lineOf, Adds};
 use machine::Refusal;
 use state::FinishAnswer;
 use state::NUMBERS;
@@ -121,8 +121,8 @@ pub fn leaf_line(number: u64, numbers: [u64; 6]) -> Line
     with_numbers(with_decimal(starting(b""), number, DIGITS), &numbers)
 }
 
-// The line of the leaf with so many before it, from its record in the leaf table.
-pub fn leaf_after(table: &[u64], i: usize) -> Line
+// The line of the leaf with so many before it, whose record the leaf table holds.
+fn leaf_at(table: &[u64], i: usize) -> Line
     requires { ⌜ 6 * i + 6 ≤ length (now table) ⌝ }
     ensures { λ r. ⌜ r ≡ lineOf (leafText (i + 1) (take 6 (drop (6 * i) (now (table .entry))))) ⌝ }
 {
@@ -136,4 +136,14 @@ pub fn leaf_after(table: &[u64], i: usize) -> Line
         table[at + 5],
     ];
     leaf_line((i + 1) as u64, numbers)
+}
+
+// The line of the leaf with so many before it, from its record in the leaf table; empty where the table holds no such record.
+pub fn leaf_after(table: &[u64], i: usize) -> Line
+    ensures { λ r. ⌜ r ≡ lineOf (leafAfter (now (table .entry)) i) ⌝ }
+{
+    if table.len() / NUMBERS <= i {
+        return starting(b"");
+    }
+    leaf_at(table, i)
 }

@@ -45,10 +45,8 @@ pub fn print_fed(answer: FeedAnswer) {
 
 // The line of the leaf with so many before it, after a `/`.
 fn print_leaf(table: &[u64], i: usize) {
-    if i < table.len() / NUMBERS {
-        print(b"/");
-        print_line(leaf_after(table, i));
-    }
+    print(b"/");
+    print_line(leaf_after(table, i));
 }
 
 fn print_leaves(leaves: u64, table: &[u64]) {

@@ -1,10 +1,10 @@
 -- `list::print_leaves` is safe and ends. The loop's invariant: the table holds the leaves passed.
-use Prim.Native.Nat.{ℕ, _+_, _*_, _-_, _≤_}
+use Prim.Native.Nat.{ℕ, _-_, _≤_}
 use mathlib.Core.List.{List}
 use native.Mathlib.Omega.{arith}
-use lib.ListN.{take, drop, length-take}
-use Rattle.listing.specs.Text.{leafText}
-use Rattle.listing.proofs.Laws.{line-length, leaf-length}
+use Rattle.listing.specs.Text.{leafAfter}
+use Rattle.listing.proofs.Laws.{line-length, after-length}
+use borrow.Author.Needs.{needs}
 use Rattle.list.proofs.print_leaves.Statement.{statement}
 use Rattle.list.proofs.print_leaves.Tie as tie
 
@@ -18,14 +18,13 @@ loop-holds : tie.Need-loop-holds Inv-loop μ-loop
 loop-holds c = omega arith
 
 leaf-after-requires : tie.Need-leaf-after-requires Inv-loop μ-loop
-leaf-after-requires c κs = omega arith
+leaf-after-requires c κs = search needs
 
 print-line-requires : tie.Need-print-line-requires Inv-loop μ-loop
 print-line-requires c κs =
     let table : List ℕ = c .before .before .before .before .before .args .table .now in
     let i : ℕ = c .before .before .before .loop .i in
-    let numbers : List ℕ = take 6 (drop (6 * i) table) in
-    omega (arith, line-length (leafText (i + 1) numbers) (c .leaf-after .ensures), leaf-length (i + 1) numbers, length-take 6 (drop (6 * i) table))
+    omega (arith, line-length (leafAfter table i) (c .leaf-after .ensures), after-length table i)
 
 returns : tie.Need-returns Inv-loop μ-loop
 returns c = tt
