@@ -1,6 +1,6 @@
--- A piece fed byte by byte, or by the bytes that pass at once; and the checks before.
+-- A piece fed by the bytes that pass at once, or by those of a number and one byte; and the checks before.
 use Prim.Native.Nat.{ℕ, suc, _+_, _-_, _≤_, _<_}
-use mathlib.Core.Path.{_≡_, refl, ap, sym, _∙_}
+use mathlib.Core.Path.{_≡_, refl, ap, sym, subst, _∙_}
 use mathlib.Core.List.{List, [], _∷_}
 use mathlib.Core.Bool.{true, false}
 use native.Mathlib.Omega.{arith}
@@ -21,11 +21,13 @@ use Rattle.state.proofs.Jump.{passing-there, passing-limit, run-passing}
 use Rattle.state.proofs.Cuts.{stateNext, state-join, feed-short, feed-outside, feed-inside}
 use Rattle.step.specs.Answers.{answered}
 use Rattle.step.proofs.Laws.{left-with}
+use Rattle.numbers.specs.Spelling.{Taken, taken, spelledOn}
+use Rattle.numbers.proofs.Laws.{spelled-later, spelled-fed}
 use Rattle.jump.specs.Passes.{passes, passedOn, Fitting}
 use Rattle.feed.specs.Advanced.{Advanced}
 
 -- one byte of a piece is taken
-pub one-taken : (piece : List ℕ) (s : State) (i : ℕ) (work table : List ℕ) (s' : State) (work' table' : List ℕ) → i < length piece → InRange s' →
+one-taken : (piece : List ℕ) (s : State) (i : ℕ) (work table : List ℕ) (s' : State) (work' table' : List ℕ) → i < length piece → InRange s' →
     left-with s' work' table' ≡ feedState s (getD piece i 0 ∷ []) work table → Advanced piece s i work table s' (i + 1) work' table'
 one-taken piece s i work table s' work' table' h r e =
     record {
@@ -35,6 +37,25 @@ one-taken piece s i work table s' work' table' h r e =
       same =
           rw (add-one i, drop-cons piece i 0 h) (ap (λ (o : Out FeedAnswer). stateNext o (drop (suc i) piece)) e ∙ sym (state-join s (getD piece i 0 ∷ []) (drop (suc i) piece) work table));
     }
+
+-- The bytes of a number that are taken together, which leave `on` at the place `at` of the piece.
+module _ (piece : List ℕ) (s : State) (i : ℕ) (work : List ℕ) (on : State) (at : ℕ) (work₁ : List ℕ) (h : i < length piece) (e : taken on at work₁ ≡ spelledOn s piece i work) where
+  pub spelled-there : (i ≤ at) × (at < length piece)
+  spelled-there = subst (λ (t : Taken). (i ≤ t .at) × (t .at < length piece)) (sym e) (spelled-later s piece i work h)
+
+  -- and one byte
+  pub number-taken : (table : List ℕ) (s' : State) (work' table' : List ℕ) → InRange s → InRange s' →
+      left-with s' work' table' ≡ feedState on (getD piece at 0 ∷ []) work₁ table → Advanced piece s i work table s' (at + 1) work' table'
+  number-taken table s' work' table' r r' e' =
+      let o : Advanced piece on at work₁ table s' (at + 1) work' table' = one-taken piece on at work₁ table s' work' table' (spelled-there .1) r' e' in
+      record {
+        later = omega (arith, spelled-there .0);
+        within = o .within;
+        inside = r';
+        same =
+            o .same
+            ∙ subst (λ (t : Taken). feedState (t .state) (drop (t .at) piece) (t .work) table ≡ feedState s (drop i piece) work table) (sym e) (spelled-fed s piece i work table r h);
+      }
 
 -- the bytes that pass at once are there; the count stays in its range; the piece reads on as it did
 passes-there : (s : State) (rest : ℕ) → passes s rest ≤ rest

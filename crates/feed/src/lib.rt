@@ -4,6 +4,7 @@ pub use finish::finish;
 use jump::pass;
 use jump::passing_now;
 use machine::Refusal;
+use numbers::spell_on;
 use range::in_range;
 pub use start::start;
 use state::FeedAnswer;
@@ -34,17 +35,20 @@ struct Moved {
     at: usize,
 }
 
-// The bytes that pass at once, or else one byte.
+// The bytes that pass at once; or else those of a number that are taken together, and one byte.
 fn advance(s: State, piece: &[u8], i: usize, work: &mut [u8], table: &mut [u64]) -> Moved
     requires { ⌜ (workBytes ≤ length (now work)) × InRange s × (i < length (now piece)) ⌝ }
     ensures { λ m. ⌜ Advanced (now (piece .entry)) s i (now (work .entry)) (now (table .entry)) (m .state) (m .at) (now (work .exit)) (now (table .exit)) ⌝ }
 {
     let k = passing_now(s, (piece.len() - i) as u64);
     if k == 0 {
-        let next = state_byte(s, piece[i], work, table);
+        let m = spell_on(s, piece, i, work);
+        let on = m.state;
+        let at = m.at;
+        let next = state_byte(on, piece[at], work, table);
         return Moved {
             state: next,
-            at: i + 1,
+            at: at + 1,
         };
     }
     Moved {

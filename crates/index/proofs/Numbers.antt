@@ -15,10 +15,10 @@ use Rattle.state.specs.declared.EntryPart.{EntryPart}
 use Rattle.state.specs.declared.EntryPart.the-variants as entry
 use Rattle.state.specs.declared.Sidx.{Sidx}
 use Rattle.state.specs.declared.Sidx.the-variants as sidx
-use Rattle.state.specs.Sidx.{partOf, wordPlace, bytePlace}
+use Rattle.state.specs.Sidx.{partOf, bytePlace}
 use Rattle.state.specs.Ranges.{Within, spelled, indexMost, sidxBounds, sizesRead, durationsRead}
 use Rattle.state.proofs.RangeTests.{spelled-last}
-use Rattle.state.proofs.RangeNumbers.{index-most}
+use Rattle.state.proofs.RangeNumbers.{index-most, word-most}
 use Rattle.header.proofs.Steps.{spelled-small}
 use Rattle.index.specs.declared.Where.{Where}
 use Rattle.index.specs.declared.Where.the-variants as places
@@ -45,12 +45,6 @@ pub part-most : (p : Where) → Shallow p → partOf (placeOf p) ≤ 36864
 unfolding partOf
 part-most places.Topmost h = omega arith
 part-most (places.Under top slot depth) h = omega arith
-
-pub word-most : (e : EntryPart) → wordPlace e ≤ 8
-unfolding wordPlace
-word-most entry.Size = omega arith
-word-most entry.Duration = omega arith
-word-most entry.Sap = omega arith
 
 place-most : (p : Where) (e : EntryPart) (s : Sums) (more : ℕ) → Shallow p → Summed s → bytePlace (placeOf p) e s more < workBytes
 place-most p e s more h k = let l = part-most p h in let m = word-most e in omega arith

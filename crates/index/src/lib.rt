@@ -458,7 +458,7 @@ fn word_place(part: EntryPart) -> u64
 }
 
 // Where a byte of an entry is stored: in its level's part, its entry, its number.
-fn byte_place(p: Where, part: EntryPart, sums: Sums, more: u64) -> u64
+pub fn byte_place(p: Where, part: EntryPart, sums: Sums, more: u64) -> u64
     requires { ⌜ Shallow p × Summed sums × (more ≤ 3) ⌝ }
     ensures { λ r. ⌜ r ≡ bytePlace (placeOf p) part sums more ⌝ }
 {

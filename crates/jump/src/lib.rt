@@ -112,7 +112,7 @@ fn stage_skips(s: Stage) -> u64
     }
 }
 
-fn lesser(a: u64, b: u64) -> u64
+pub fn lesser(a: u64, b: u64) -> u64
     ensures { λ r. ⌜ r ≡ least a b ⌝ }
 {
     if a < b {

@@ -131,11 +131,11 @@ jump (x ∷ xs) bytes n s f low h =
     ∙ jump xs bytes (suc n) s f (omega arith) (omega arith)
     ∙ ap (λ (m : ℕ). run (reading m s f) bytes) e
 
-least-first : (a b : ℕ) → least a b ≤ a
+pub least-first : (a b : ℕ) → least a b ≤ a
 unfolding least
 least-first a b = pick-holds (λ (k : ℕ). k ≤ a) (ltb a b) a b (λ e. omega arith) (λ e. ltb-false a b e)
 
-least-second : (a b : ℕ) → least a b ≤ b
+pub least-second : (a b : ℕ) → least a b ≤ b
 unfolding least
 least-second a b = pick-holds (λ (k : ℕ). k ≤ b) (ltb a b) a b (λ e. let h = ltb-true a b e in omega arith) (λ e. omega arith)
 

@@ -257,7 +257,7 @@ kept-put none more f (b ∷ bs) h short = kept-put none (more - 1) f bs (omega a
 kept-put (some i) more f [] h short = refl
 kept-put (some i) more f (b ∷ bs) h short =
     let e : i + (3 - (more - 1)) ≡ suc (i + (3 - more)) = omega arith in
-    kept-put (some i) (more - 1) (keepIn (some i) f more b) bs (omega arith) (omega arith)
+    kept-put (some i) (more - 1) (keepIn (some i) f more b) bs (omega arith) (omega arith, short .1)
     ∙ ap (λ (k : ℕ). withWork f (putAll (set (f .work) (i + (3 - more)) b) k bs)) e
 
 -- so many bytes of a piece from a place on, all of them there and none of them the number's last

@@ -1,8 +1,9 @@
--- The numbers of a state in its ranges fit: at most eight bytes, and four where they are stored.
-use Prim.Native.Nat.{ℕ, _-_, _^_, _≤_}
+-- The numbers of a state in its ranges fit: at most eight bytes, and four, inside the work area, where they are stored.
+use Prim.Native.Nat.{ℕ, _+_, _-_, _^_, _≤_}
 use mathlib.Core.Bool.{Bool, true, false}
 use native.Mathlib.Omega.{arith}
 use native.Mathlib.Nat.{pow-le-pow-right}
+use Rattle.segment.specs.Constants.{levelBytes, workBytes}
 use Rattle.machine.specs.declared.Head.{Head}
 use Rattle.machine.specs.declared.Head.the-variants as at
 use Rattle.state.specs.declared.Slot.{Slot}
@@ -10,6 +11,8 @@ use Rattle.state.specs.declared.Top.{Top}
 use Rattle.state.specs.declared.Levels.{Levels}
 use Rattle.state.specs.declared.IndexPart.{IndexPart}
 use Rattle.state.specs.declared.IndexPart.the-variants as part
+use Rattle.state.specs.declared.EntryPart.{EntryPart}
+use Rattle.state.specs.declared.EntryPart.the-variants as entry
 use Rattle.state.specs.declared.TrafPart.{TrafPart}
 use Rattle.state.specs.declared.TrafPart.the-variants as trafPart
 use Rattle.state.specs.declared.Sidx.{Sidx}
@@ -37,7 +40,7 @@ use Rattle.state.specs.declared.InnerBox.the-variants as inners
 use Rattle.state.specs.declared.Stage.{Stage}
 use Rattle.state.specs.declared.Stage.the-variants as stage
 use Rattle.state.specs.Levels.{depth}
-use Rattle.state.specs.Sidx.{Place, topmost, under, wideMore}
+use Rattle.state.specs.Sidx.{Place, topmost, under, partOf, wideMore, wordPlace}
 use Rattle.state.specs.Ranges.{Within, spelled, headBounds, trafMost, trafBodyBounds, trafBounds, moofBodyBounds, moofBounds, leafBodyBounds, leafBounds, indexMost, sidxBounds, openingBodyBounds, openingBounds, gapBounds, topBounds, levelsBounds, slotBounds, innerBounds, stageBounds}
 use Rattle.state.specs.Numbers.{headNumber, sidxNumber, trafBodyNumber, trafNumber, moofBodyNumber, moofNumber, leafBodyNumber, leafNumber, openingBodyNumber, openingNumber, gapNumber, innerNumber, stageNumber, Short, Fits}
 use Rattle.state.proofs.RangeTests.{spelled-first, four-within}
@@ -69,6 +72,12 @@ traf-most (trafPart.Version pos end) = omega arith
 traf-most (trafPart.TimeFlags pos wide) = omega arith
 traf-most (trafPart.Time pos) = omega arith
 
+pub word-most : (e : EntryPart) → wordPlace e ≤ 8
+unfolding wordPlace
+word-most entry.Size = omega arith
+word-most entry.Duration = omega arith
+word-most entry.Sap = omega arith
+
 absent-fits : Within (spelled 7 0 0)
 absent-fits = spelled-first 7 0 (omega arith)
 
@@ -79,10 +88,12 @@ head-fits (at.Size pos more acc) w = (widen 3 more acc (omega arith) (w .1), tt)
 head-fits (at.Kind pos size more acc) w = (widen 3 more acc (omega arith) (w .1), tt)
 head-fits (at.Large pos kind more acc) w = (w .1, tt)
 
-sidx-fits : (p : Place) (s : Sidx) → Within (sidxBounds s) → Fits (sidxNumber p s)
+-- an index has its part of the work area, on level 4 at the most
+sidx-fits : (p : Place) (s : Sidx) → partOf p + levelBytes ≤ workBytes → Within (sidxBounds s) → Fits (sidxNumber p s)
 unfolding sidxBounds sidxNumber Short
-sidx-fits p (sidx.Field i d more acc) w = (widen (indexMost i (d .wide)) more acc (index-most i (d .wide)) (w .1 .1 .1), tt)
-sidx-fits p (sidx.Entry e d s more acc) w = (widen 3 more acc (omega arith) (w .1 .1 .1 .1 .1 .1 .1), w .1 .1 .1 .1 .1 .1 .1 .0)
+sidx-fits p (sidx.Field i d more acc) h w = (widen (indexMost i (d .wide)) more acc (index-most i (d .wide)) (w .1 .1 .1), tt)
+sidx-fits p (sidx.Entry e d s more acc) h w =
+    (widen 3 more acc (omega arith) (w .1 .1 .1 .1 .1 .1 .1), (w .1 .1 .1 .1 .1 .1 .1 .0, omega (arith, h, word-most e, w .1 .1 .1 .0, w .1 .1 .1 .1 .0)))
 
 traf-body-fits : (s : TrafBody) → Within (trafBodyBounds s) → Fits (trafBodyNumber s)
 unfolding trafBodyBounds trafBodyNumber Short
@@ -116,10 +127,10 @@ leaf-fits (leafBox.Head so h) w = head-fits h w
 leaf-fits (leafBox.Body so s) w = leaf-body-fits s w
 
 opening-body-fits : (s : OpeningBody) → Within (openingBodyBounds s) → Fits (openingBodyNumber s)
-unfolding openingBodyBounds openingBodyNumber Short
+unfolding openingBodyBounds openingBodyNumber Short partOf
 opening-body-fits (openings.Skip stop) w = (absent-fits, tt)
 opening-body-fits (openings.Styp span p listed more acc) w = (widen 3 more acc (omega arith) w, tt)
-opening-body-fits (openings.Index span s) w = sidx-fits topmost s w
+opening-body-fits (openings.Index span s) w = sidx-fits topmost s (omega arith) w
 
 opening-fits : (s : OpeningBoxes) → Within (openingBounds s) → Fits (openingNumber s)
 unfolding openingBounds openingNumber
@@ -132,9 +143,9 @@ gap-fits (gaps.Head h) w = head-fits h w
 gap-fits (gaps.Body stop) w = (absent-fits, tt)
 
 inner-fits : (top : Top) (ls : Levels) (slot : Slot) (s : InnerBox) → Within (innerBounds ls s) → Fits (innerNumber top ls slot s)
-unfolding innerBounds innerNumber
+unfolding innerBounds innerNumber partOf
 inner-fits top ls slot (inners.Head h) w = head-fits h w
-inner-fits top ls slot (inners.Body span s) w = sidx-fits (under top slot (depth ls)) s (w .1)
+inner-fits top ls slot (inners.Body span s) w = sidx-fits (under top slot (depth ls)) s (omega (arith, w .0)) (w .1)
 
 pub stage-fits : (s : Stage) (now : ℕ) → Within (stageBounds s now) → Fits (stageNumber s)
 unfolding stageBounds stageNumber Short

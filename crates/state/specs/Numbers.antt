@@ -1,8 +1,8 @@
 -- Numbers that are being read: their bytes, but for the last, spell on and do nothing else; those of an entry are stored as read.
-use Prim.Native.Nat.{ℕ, _-_, _*_, _+_, _≤_}
+use Prim.Native.Nat.{ℕ, _-_, _*_, _+_, _≤_, _<_}
 use mathlib.Core.List.{List, [], _∷_}
 use mathlib.Core.Option.{Option, some, none}
-use Rattle.segment.specs.Constants.{entryBytes}
+use Rattle.segment.specs.Constants.{entryBytes, workBytes}
 use Rattle.machine.specs.declared.Head.{Head}
 use Rattle.machine.specs.declared.Head.the-variants as at
 use Rattle.state.specs.declared.Top.{Top}
@@ -132,10 +132,10 @@ unfoldable pub putIn : Option ℕ → ℕ → List ℕ → List ℕ → List ℕ
 putIn none more work bs = work
 putIn (some i) more work bs = putAll work (i + (3 - more)) bs
 
--- a number has at most eight bytes, and four where they are stored
+-- a number has at most eight bytes, and four, inside the work area, where they are stored
 unfoldable pub Short : Option ℕ → ℕ → Type 0
 Short none more = Unit {0}
-Short (some i) more = more ≤ 3
+Short (some i) more = (more ≤ 3) × (i + 3 < workBytes)
 
 abbrev pub Fits : {S : Type 0} → Number S → Type 0
 Fits x = Within (spelled 7 (x .more) (x .acc)) × Short (x .place) (x .more)

@@ -1,5 +1,6 @@
 use native.Mathlib.Omega.{arith}
-use Rattle.index.proofs.Numbers.{part-most, word-most}
+use Rattle.state.proofs.RangeNumbers.{word-most}
+use Rattle.index.proofs.Numbers.{part-most}
 use borrow.Author.Needs.{needs}
 use Rattle.index.proofs.byte_place.Statement.{statement}
 use Rattle.index.proofs.byte_place.Tie as tie
