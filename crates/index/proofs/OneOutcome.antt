@@ -16,6 +16,8 @@ use Rattle.index.proofs.refused_index.Kinds as refused-kinds
 use Rattle.index.proofs.refused_index.Reads as refused-stated
 use Rattle.index.proofs.index_begin.Kinds as begin-kinds
 use Rattle.index.proofs.index_begin.Reads as begin-stated
+use Rattle.index.proofs.byte_place.Kinds as place-kinds
+use Rattle.index.proofs.byte_place.Reads as place-stated
 use Rattle.index.proofs.index_byte.Kinds as byte-kinds
 use Rattle.index.proofs.index_byte.Reads as byte-stated
 
@@ -47,6 +49,10 @@ index-begin-once = record {
   asks-nothing = λ κs given. tt;
   outcomes-coincide = λ κs given r r' left left' p q. (p ∙ sym q, refl);
 }
+
+-- of one byte of one entry: one place in the work area
+pub byte-place-once : Coincide 0 place-kinds.ps place-kinds.r place-stated.Post
+byte-place-once κs given r r' left left' p q = (p ∙ sym q, refl)
 
 -- of one place, index so far, time, count of bytes, byte and work area: one answer, and one work area after the call, byte by byte
 pub index-byte-once : Coincide 1 byte-kinds.ps byte-kinds.r byte-stated.Post
