@@ -21,8 +21,8 @@ use Rattle.state.proofs.Jump.{passing-there, passing-limit, run-passing}
 use Rattle.state.proofs.Cuts.{stateNext, state-join, feed-short, feed-outside, feed-inside}
 use Rattle.step.specs.Answers.{answered}
 use Rattle.step.proofs.Laws.{left-with}
-use Rattle.numbers.specs.Spelling.{Taken, taken, spelledOn}
-use Rattle.numbers.proofs.Laws.{spelled-later, spelled-fed}
+use Rattle.spelling.specs.Together.{Taken, taken, spelledOn}
+use Rattle.spelling.proofs.Laws.{spelled-later, spelled-fed}
 use Rattle.jump.specs.Passes.{passes, passedOn, Fitting}
 use Rattle.feed.specs.Advanced.{Advanced}
 

@@ -1,15 +1,18 @@
--- The contract of `spell_on` itself, as the check reads it: two outcomes that it allows coincide.
-use mathlib.Core.Path.{sym, ap, _∙_}
-use Rattle.basics.specs.Outcome.{Coincide, after}
-use Rattle.numbers.specs.declared.Spelled.{Spelled}
-use Rattle.numbers.specs.Spelling.{Taken}
-use Rattle.numbers.proofs.spell_on.Kinds as kinds
-use Rattle.numbers.proofs.spell_on.Reads as stated
+-- The contracts of the functions that other crates call, as the check reads them: two outcomes that one allows coincide, and `stage_again` asks nothing.
+use mathlib.Core.Path.{refl, sym, _∙_}
+use Rattle.basics.specs.Outcome.{Coincide, OneOutcome}
+use Rattle.numbers.proofs.stage_number.Kinds as number-kinds
+use Rattle.numbers.proofs.stage_number.Reads as number-stated
+use Rattle.numbers.proofs.stage_again.Kinds as again-kinds
+use Rattle.numbers.proofs.stage_again.Reads as again-stated
 
--- of one state, piece, place in it and work area: one state and place, and one work area after the call, byte by byte
-pub spell-on-once : Coincide 2 kinds.ps kinds.r stated.Post
-spell-on-once κs given r r' left left' p q =
-    let same = p .0 ∙ sym (q .0) in (
-      ap (λ (t : Taken). record { state = t .state; at = t .at }) same,
-      ap (λ (t : Taken). after 2 kinds.ps kinds.r κs given (tt, (tt, (tt, (t .work, tt))))) same,
-    )
+-- of one stage and time: one number at hand
+pub stage-number-once : Coincide 0 number-kinds.ps number-kinds.r number-stated.Post
+stage-number-once κs given r r' left left' p q = (p ∙ sym q, refl)
+
+-- of one stage and what is read of its number: one stage
+pub stage-again-once : OneOutcome 0 again-kinds.ps again-kinds.r again-stated.Pre again-stated.Post
+stage-again-once = record {
+  asks-nothing = λ κs given. tt;
+  outcomes-coincide = λ κs given r r' left left' p q. (p ∙ sym q, refl);
+}

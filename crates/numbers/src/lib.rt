@@ -1,13 +1,10 @@
-// The number that is being read: how many of its bytes are taken together, none of them its last, and the state after them.
-use header::spelled;
+// The number that is being read, whatever the stage: how much of it is read, and the stage with more of it read.
 use index::Where;
 use index::byte_place;
-use jump::lesser;
 use levels::depth;
 use machine::Head;
 use state::GapBoxes;
 use state::InnerBox;
-use state::LIMIT;
 use state::LeafBody;
 use state::LeafBoxes;
 use state::Levels;
@@ -18,36 +15,23 @@ use state::OpeningBoxes;
 use state::Sidx;
 use state::Slot;
 use state::Stage;
-use state::State;
 use state::Top;
 use state::TrafBody;
 use state::TrafBoxes;
 ghost use mathlib.Core.Path.{_≡_};
 ghost use mathlib.Core.Bool.{false};
-ghost use Prim.Native.Nat.{_+_, _-_, _≤_, _<_};
-ghost use lib.ListN.{length, take, drop};
-ghost use Rattle.basics.specs.Bytes.{numberFrom};
-ghost use Rattle.basics.specs.Choose.{pick};
-ghost use Rattle.segment.specs.Constants.{workBytes};
-ghost use Rattle.state.specs.Flow.{putAll};
 ghost use Rattle.state.specs.Sidx.{Place};
-ghost use Rattle.state.specs.Numbers.{headNumber, sidxNumber, trafNumber, moofNumber, leafNumber, openingNumber, gapNumber, innerNumber, stageNumber, putIn, Fits};
-ghost use Rattle.state.specs.Ranges.{Within, InRange, spelled as spelledBounds, sidxBounds, openingBounds, innerBounds, stageBounds};
+ghost use Rattle.state.specs.Numbers.{headNumber, sidxNumber, trafNumber, moofNumber, leafNumber, openingNumber, gapNumber, innerNumber, stageNumber};
+ghost use Rattle.state.specs.Ranges.{Within, sidxBounds, openingBounds, innerBounds, stageBounds};
 ghost use Rattle.index.specs.Views.{placeOf, Shallow};
-ghost use Rattle.numbers.specs.Spelling.{taken, spelledOn, told};
+ghost use Rattle.numbers.specs.Told.{told};
 
 // So many bytes follow the next one, those before it spell `acc`, and where they are stored, the next one goes to `at`.
-struct Spelling {
-    more: u64,
-    acc: u64,
-    stored: bool,
-    at: u64,
-}
-
-// A state, and how many bytes of the piece are taken before it.
-pub struct Spelled {
-    pub state: State,
-    pub at: usize,
+pub struct Spelling {
+    pub more: u64,
+    pub acc: u64,
+    pub stored: bool,
+    pub at: u64,
 }
 
 // No number is being read, or one whose bytes are not stored.
@@ -356,7 +340,8 @@ fn inner_again(s: InnerBox, more: u64, acc: u64) -> InnerBox
     }
 }
 
-fn stage_number(s: Stage, now: u64) -> Spelling
+// The number at hand.
+pub fn stage_number(s: Stage, now: u64) -> Spelling
     requires { ⌜ Within (stageBounds s now) ⌝ }
     ensures { λ r. ⌜ r ≡ told (stageNumber s) ⌝ }
 {
@@ -384,7 +369,8 @@ fn stage_number(s: Stage, now: u64) -> Spelling
     }
 }
 
-fn stage_again(s: Stage, more: u64, acc: u64) -> Stage
+// The stage with its number read so far that `more` bytes follow the next one and those before it spell `acc`.
+pub fn stage_again(s: Stage, more: u64, acc: u64) -> Stage
     ensures { λ r. ⌜ r ≡ stageNumber s .again more acc ⌝ }
 {
     match s {
@@ -426,84 +412,5 @@ fn stage_again(s: Stage, more: u64, acc: u64) -> Stage
             slot,
             first: inner_again(first, more, acc),
         },
-    }
-}
-
-// The number that bytes of a piece spell after those that spelled `acc`.
-fn spell_bytes(acc: u64, piece: &[u8], i: usize, k: usize) -> u64
-    requires { ⌜ (i + k ≤ length (now piece)) × Within (spelledBounds 7 k acc) ⌝ }
-    ensures { λ r. ⌜ r ≡ numberFrom acc (take k (drop i (now (piece .entry)))) ⌝ }
-{
-    let mut r = acc;
-    let mut j = 0;
-    while j < k {
-        r = spelled(r, piece[i + j]);
-        j += 1;
-    }
-    r
-}
-
-// Bytes of a piece, stored as read.
-fn store_bytes(work: &mut [u8], at: usize, piece: &[u8], i: usize, k: usize)
-    requires { ⌜ (i + k ≤ length (now piece)) × (at + k ≤ length (now work)) ⌝ }
-    ensures { λ _. ⌜ now (work .exit) ≡ putAll (now (work .entry)) at (take k (drop i (now (piece .entry)))) ⌝ }
-{
-    let mut j = 0;
-    while j < k {
-        work[at + j] = piece[i + j];
-        j += 1;
-    }
-}
-
-// How many of `k` bytes are stored.
-fn stored_of(x: Spelling, k: u64) -> u64
-    ensures { λ r. ⌜ r ≡ pick (x .stored) k 0 ⌝ }
-{
-    if x.stored {
-        return k;
-    }
-    0
-}
-
-// The stage after `k` bytes of its number, none of them the last.
-fn stage_on(s: Stage, x: Spelling, k: u64, piece: &[u8], i: usize, work: &mut [u8]) -> Stage
-    requires { ⌜ (x ≡ told (stageNumber s)) × Fits (stageNumber s) × (k ≤ x .more) × (i + k ≤ length (now piece)) × (workBytes ≤ length (now work)) ⌝ }
-    ensures { λ r. ⌜ (r ≡ stageNumber s .again (stageNumber s .more - k) (numberFrom (stageNumber s .acc) (take k (drop i (now (piece .entry)))))) × (now (work .exit) ≡ putIn (stageNumber s .place) (stageNumber s .more) (now (work .entry)) (take k (drop i (now (piece .entry))))) ⌝ }
-{
-    let acc = spell_bytes(x.acc, piece, i, k as usize);
-    store_bytes(work, x.at as usize, piece, i, stored_of(x, k) as usize);
-    stage_again(s, x.more - k, acc)
-}
-
-// The bytes of the number at hand are taken together, as far as the piece has them and another byte; none of them is the number's last.
-pub fn spell_on(s: State, piece: &[u8], i: usize, work: &mut [u8]) -> Spelled
-    requires { ⌜ (workBytes ≤ length (now work)) × InRange s × (i < length (now piece)) ⌝ }
-    ensures { λ r. ⌜ (taken (r .state) (r .at) (now (work .exit)) ≡ spelledOn s (now (piece .entry)) i (now (work .entry))) × InRange (r .state) ⌝ }
-{
-    let State::Reading {
-        count,
-        leaves,
-        now,
-        last,
-        stage,
-    } = s
-    else {
-        return Spelled { state: s, at: i };
-    };
-    let x = stage_number(stage, now);
-    let k = lesser(x.more, lesser((piece.len() - i - 1) as u64, LIMIT - count));
-    if k == 0 {
-        return Spelled { state: s, at: i };
-    }
-    let next = stage_on(stage, x, k, piece, i, work);
-    Spelled {
-        state: State::Reading {
-            count: count + k,
-            leaves,
-            now,
-            last,
-            stage: next,
-        },
-        at: i + (k as usize),
     }
 }

@@ -2,9 +2,8 @@
 use Prim.Native.Nat.{ℕ, zero, suc, _+_, _-_, _≤_, _<_}
 use mathlib.Core.Path.{_≡_, refl, ap, sym, _∙_}
 use mathlib.Core.List.{List, [], _∷_, _++_}
-use mathlib.Core.Bool.{Bool, true, false}
 use native.Mathlib.Omega.{arith}
-use lib.Dec.{eqb, leb, ltb}
+use lib.Dec.{leb, ltb}
 use lib.ListN.{length, take, drop, take-append-drop, length-drop}
 use lib.Seq.{length-take-le, drop-drop}
 use borrow.Author.Tests.{lt-leb, ne-eqb, ltb-true, ltb-false}
@@ -12,8 +11,8 @@ use Rattle.basics.specs.Choose.{pick}
 use Rattle.basics.proofs.Picks.{pick-no, pick-holds}
 use Rattle.segment.specs.Constants.{limit}
 use Rattle.machine.specs.Faults.{shows, unless}
-use Rattle.machine.specs.Run.{Sub, go, done, bad, lift}
-use Rattle.machine.specs.Lists.{Box, inHead, inBody, Kind, stepBox, Boxes, stepBoxes}
+use Rattle.machine.specs.Run.{Sub, go, done, lift}
+use Rattle.machine.specs.Lists.{Box, inBody, stepBox, Boxes, stepBoxes}
 use Rattle.state.specs.declared.Track.{Track}
 use Rattle.state.specs.declared.Span.{Span}
 use Rattle.state.specs.declared.Slot.{Slot}
@@ -37,7 +36,7 @@ use Rattle.state.specs.declared.GapBoxes.{GapBoxes}
 use Rattle.state.specs.declared.GapBoxes.the-variants as gaps
 use Rattle.state.specs.declared.Stage.{Stage}
 use Rattle.state.specs.declared.Stage.the-variants as stage
-use Rattle.state.specs.Flow.{Flow, Left, left}
+use Rattle.state.specs.Flow.{Flow, Left}
 use Rattle.state.specs.Traf.{nothing, headed, stepTrafBody, trafBoxes, wrapTraf, stepTraf}
 use Rattle.state.specs.Leaf.{skipped, stepMoofBody, moofBoxes, wrapMoof, stepMoof, stepLeafBody, leafBoxes, wrapLeaf, stepLeaf}
 use Rattle.state.specs.Opening.{passed, stepOpeningBody, opening, wrapOpening, stepOpening}

@@ -1,5 +1,5 @@
 -- The number law: the bytes of a number, but for its last, taken together.
-use Prim.Native.Nat.{ℕ, zero, suc, _+_, _-_, _*_, _≤_, _<_}
+use Prim.Native.Nat.{ℕ, suc, _+_, _-_, _*_, _≤_, _<_}
 use mathlib.Core.Path.{_≡_, refl, ap, sym, _∙_}
 use mathlib.Core.List.{List, [], _∷_, _++_}
 use mathlib.Core.Option.{Option, some, none}
@@ -9,9 +9,9 @@ use lib.Seq.{length-take-le, drop-drop}
 use Rattle.basics.specs.Bytes.{numberFrom}
 use Rattle.segment.specs.Constants.{limit}
 use Rattle.machine.specs.Faults.{unless}
-use Rattle.machine.specs.Run.{Sub, go, done, bad, lift}
+use Rattle.machine.specs.Run.{go, lift}
 use Rattle.machine.specs.Heads.{stepHead}
-use Rattle.machine.specs.Lists.{Box, inHead, inBody, Kind, stepBox, Boxes, stepBoxes}
+use Rattle.machine.specs.Lists.{Box, inHead, Kind, stepBox, Boxes, stepBoxes}
 use Rattle.machine.specs.declared.Head.{Head}
 use Rattle.machine.specs.declared.Head.the-variants as at
 use Rattle.state.specs.declared.Track.{Track}

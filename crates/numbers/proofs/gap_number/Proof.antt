@@ -2,7 +2,7 @@ use mathlib.Core.Path.{ap, sym, _∙_}
 use borrow.Author.Needs.{needs}
 use Rattle.state.specs.Numbers.{gapNumber}
 use Rattle.state.specs.declared.GapBoxes.{GapBoxes}
-use Rattle.numbers.specs.Spelling.{told, isStored, atOf}
+use Rattle.numbers.specs.Told.{told, isStored, atOf}
 use Rattle.numbers.proofs.gap_number.Statement.{statement}
 use Rattle.numbers.proofs.gap_number.Tie as tie
 

@@ -2,7 +2,7 @@ use mathlib.Core.Path.{ap, sym, _∙_}
 use borrow.Author.Needs.{needs}
 use Rattle.state.specs.Numbers.{headNumber}
 use Rattle.machine.specs.declared.Head.{Head}
-use Rattle.numbers.specs.Spelling.{told, isStored, atOf}
+use Rattle.numbers.specs.Told.{told, isStored, atOf}
 use Rattle.numbers.proofs.head_number.Statement.{statement}
 use Rattle.numbers.proofs.head_number.Tie as tie
 

@@ -4,7 +4,7 @@ use Rattle.state.specs.Numbers.{sidxNumber, innerNumber}
 use Rattle.state.specs.declared.InnerBox.{InnerBox}
 use Rattle.state.specs.Sidx.{under}
 use Prim.Native.Nat.{ℕ}
-use Rattle.numbers.specs.Spelling.{told, isStored, atOf}
+use Rattle.numbers.specs.Told.{told, isStored, atOf}
 use native.Mathlib.Omega.{arith}
 use Rattle.state.specs.Ranges.{Within, innerBounds}
 use Rattle.numbers.proofs.inner_number.Statement.{statement}

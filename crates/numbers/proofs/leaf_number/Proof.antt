@@ -3,7 +3,7 @@ use borrow.Author.Needs.{needs}
 use Rattle.state.specs.Numbers.{leafBodyNumber, leafNumber}
 use Rattle.state.specs.declared.LeafBoxes.{LeafBoxes}
 use Rattle.state.specs.declared.LeafBoxes.the-variants as leafBox
-use Rattle.numbers.specs.Spelling.{told, isStored, atOf}
+use Rattle.numbers.specs.Told.{told, isStored, atOf}
 use Rattle.numbers.proofs.leaf_number.Statement.{statement}
 use Rattle.numbers.proofs.leaf_number.Tie as tie
 

@@ -3,7 +3,7 @@ use borrow.Author.Needs.{needs}
 use Rattle.state.specs.Numbers.{moofBodyNumber, moofNumber}
 use Rattle.state.specs.declared.MoofBoxes.{MoofBoxes}
 use Rattle.state.specs.declared.MoofBoxes.the-variants as moofBox
-use Rattle.numbers.specs.Spelling.{told, isStored, atOf}
+use Rattle.numbers.specs.Told.{told, isStored, atOf}
 use Rattle.numbers.proofs.moof_number.Statement.{statement}
 use Rattle.numbers.proofs.moof_number.Tie as tie
 

@@ -3,7 +3,7 @@ use borrow.Author.Needs.{needs}
 use Rattle.state.specs.Numbers.{openingBodyNumber, openingNumber}
 use Rattle.state.specs.declared.OpeningBoxes.{OpeningBoxes}
 use Rattle.state.specs.declared.OpeningBoxes.the-variants as openingBox
-use Rattle.numbers.specs.Spelling.{told, isStored, atOf}
+use Rattle.numbers.specs.Told.{told, isStored, atOf}
 use Rattle.state.specs.Ranges.{Within, openingBodyBounds, openingBounds}
 use Rattle.numbers.proofs.opening_number.Statement.{statement}
 use Rattle.numbers.proofs.opening_number.Tie as tie

@@ -1,4 +1,4 @@
-use mathlib.Core.Path.{ap, sym, _∙_}
+use mathlib.Core.Path.{ap, sym}
 use borrow.Author.Needs.{needs}
 use Rattle.state.specs.Numbers.{sidxNumber}
 use Rattle.state.specs.declared.Sidx.{Sidx}

@@ -5,7 +5,7 @@ use Rattle.state.specs.declared.Sidx.{Sidx}
 use Prim.Native.Nat.{ℕ}
 use mathlib.Core.Bool.{true}
 use Rattle.index.specs.Views.{placeOf}
-use Rattle.numbers.specs.Spelling.{told, isStored, atOf}
+use Rattle.numbers.specs.Told.{told, isStored, atOf}
 use Rattle.index.proofs.Numbers.{entry-summed, entry-more}
 use Rattle.numbers.proofs.sidx_number.Statement.{statement}
 use Rattle.numbers.proofs.sidx_number.Tie as tie

@@ -2,7 +2,7 @@ use mathlib.Core.Path.{ap, sym, subst, _∙_}
 use borrow.Author.Needs.{needs}
 use Rattle.state.specs.Numbers.{stageNumber}
 use Rattle.state.specs.declared.Stage.{Stage}
-use Rattle.numbers.specs.Spelling.{told, isStored, atOf}
+use Rattle.numbers.specs.Told.{told, isStored, atOf}
 use Rattle.state.specs.Ranges.{Within, stageBounds, topBounds, levelsBounds, slotBounds, innerBounds}
 use Rattle.state.proofs.RangeTests.{four-within}
 use Rattle.numbers.proofs.stage_number.Statement.{statement}

@@ -3,7 +3,7 @@ use borrow.Author.Needs.{needs}
 use Rattle.state.specs.Numbers.{trafBodyNumber, trafNumber}
 use Rattle.state.specs.declared.TrafBoxes.{TrafBoxes}
 use Rattle.state.specs.declared.TrafBoxes.the-variants as trafBox
-use Rattle.numbers.specs.Spelling.{told, isStored, atOf}
+use Rattle.numbers.specs.Told.{told, isStored, atOf}
 use Rattle.numbers.proofs.traf_number.Statement.{statement}
 use Rattle.numbers.proofs.traf_number.Tie as tie
 

@@ -2,9 +2,9 @@ use Prim.Native.Nat.{_+_, _-_, _≤_}
 use mathlib.Core.Path.{refl}
 use native.Mathlib.Omega.{arith}
 use lib.ListN.{length}
-use Rattle.numbers.proofs.Loops.{Stores, stores-first, stores-next, stores-last}
-use Rattle.numbers.proofs.store_bytes.Statement.{statement}
-use Rattle.numbers.proofs.store_bytes.Tie as tie
+use Rattle.spelling.proofs.Loops.{Stores, stores-first, stores-next, stores-last}
+use Rattle.spelling.proofs.store_bytes.Statement.{statement}
+use Rattle.spelling.proofs.store_bytes.Tie as tie
 
 abbrev Inv-loop : tie.InvT-loop
 Inv-loop work₀ at piece i k j₀ work j = (i + k ≤ length piece) × (at + k ≤ length work₀) × Stores piece i k work₀ at work j

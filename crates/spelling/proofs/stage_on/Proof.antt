@@ -1,7 +1,7 @@
 use borrow.Author.Needs.{needs}
-use Rattle.numbers.proofs.Laws.{acc-fits, bytes-fit, stage-moves}
-use Rattle.numbers.proofs.stage_on.Statement.{statement}
-use Rattle.numbers.proofs.stage_on.Tie as tie
+use Rattle.spelling.proofs.Laws.{acc-fits, bytes-fit, stage-moves}
+use Rattle.spelling.proofs.stage_on.Statement.{statement}
+use Rattle.spelling.proofs.stage_on.Tie as tie
 
 spell-bytes-requires : tie.Need-spell-bytes-requires
 spell-bytes-requires c κs = (c .before .before .pre .3, acc-fits (c .before .before .args .s) (c .before .before .args .x) (c .before .before .args .k) (c .before .before .args .piece .now) (c .before .before .args .i) (c .before .before .args .work .now) (c .before .before .pre .0) (c .before .before .pre .1) (c .before .before .pre .2))

@@ -2,9 +2,9 @@ use Prim.Native.Nat.{_+_, _-_, _≤_}
 use native.Mathlib.Omega.{arith}
 use lib.ListN.{length}
 use Rattle.header.proofs.Steps.{spelled-small}
-use Rattle.numbers.proofs.Loops.{Spells, spells-first, spells-next, spells-last}
-use Rattle.numbers.proofs.spell_bytes.Statement.{statement}
-use Rattle.numbers.proofs.spell_bytes.Tie as tie
+use Rattle.spelling.proofs.Loops.{Spells, spells-first, spells-next, spells-last}
+use Rattle.spelling.proofs.spell_bytes.Statement.{statement}
+use Rattle.spelling.proofs.spell_bytes.Tie as tie
 
 abbrev Inv-loop : tie.InvT-loop
 Inv-loop acc piece i k r₀ j₀ r j = (i + k ≤ length piece) × Spells piece i k acc j r

@@ -1,8 +1,6 @@
--- The bytes of a number that are taken together, whatever the state, and what they leave; and the code's word for the number at hand.
+-- The bytes of a number that are taken together, whatever the state, and what they leave.
 use Prim.Native.Nat.{ℕ, _+_, _-_}
-use mathlib.Core.Bool.{Bool, true, false}
 use mathlib.Core.List.{List}
-use mathlib.Core.Option.{Option, some, none}
 use lib.ListN.{length, take, drop}
 use Rattle.basics.specs.Bytes.{numberFrom}
 use Rattle.segment.specs.Constants.{limit}
@@ -11,7 +9,6 @@ use Rattle.state.specs.Numbers.{Number, stageNumber, putIn}
 use Rattle.state.specs.declared.Stage.{Stage}
 use Rattle.state.specs.declared.State.{State}
 use Rattle.state.specs.declared.State.the-variants as state
-use Rattle.numbers.specs.declared.Spelling as code
 
 -- the state, the place in the piece and the work area after them
 pub record Taken : Type 0 where
@@ -36,15 +33,3 @@ spelledOn (state.Reading n leaves now last s) piece i work =
 spelledOn (state.Ended n leaves top) piece i work = taken (state.Ended n leaves top) i work
 spelledOn (state.Refused n leaves x) piece i work = taken (state.Refused n leaves x) i work
 spelledOn (state.Accepted n leaves top) piece i work = taken (state.Accepted n leaves top) i work
-
-unfoldable pub isStored : Option ℕ → Bool
-isStored none = false
-isStored (some i) = true
-
--- where the next byte is stored; 0 where none is
-unfoldable pub atOf : Option ℕ → ℕ → ℕ
-atOf none more = 0
-atOf (some i) more = i + (3 - more)
-
-abbrev pub told : {S : Type 0} → Number S → code.Spelling
-told x = record { more = x .more; acc = x .acc; stored = isStored (x .place); at = atOf (x .place) (x .more) }

@@ -1,7 +1,7 @@
 use mathlib.Core.Path.{sym}
 use Rattle.basics.proofs.Picks.{pick-yes, pick-no}
-use Rattle.numbers.proofs.stored_of.Statement.{statement}
-use Rattle.numbers.proofs.stored_of.Tie as tie
+use Rattle.spelling.proofs.stored_of.Statement.{statement}
+use Rattle.spelling.proofs.stored_of.Tie as tie
 
 returns : tie.Need-returns
 returns c = sym (pick-yes _ _ _ (c .if1 .taken))

@@ -3,7 +3,7 @@ use Prim.Native.Nat.{ℕ, zero, suc, _+_, _-_, _^_, _≤_, _<_}
 use mathlib.Core.Path.{_≡_, refl, ap, sym, subst, _∙_}
 use mathlib.Core.List.{List, [], _∷_, _++_}
 use mathlib.Core.Bool.{Bool, true, false}
-use mathlib.Core.Logic.{_⊎_, inl, inr}
+use mathlib.Core.Logic.{inl, inr}
 use mathlib.Core.Option.{Option, some, none}
 use native.Mathlib.Omega.{arith}
 use native.Mathlib.Nat.{pow-le-pow-right}
@@ -18,8 +18,8 @@ use Rattle.state.specs.declared.FeedAnswer.{FeedAnswer}
 use Rattle.state.specs.declared.Stage.{Stage}
 use Rattle.state.specs.declared.State.{State}
 use Rattle.state.specs.declared.State.the-variants as state
-use Rattle.state.specs.Flow.{Flow, putAll}
-use Rattle.state.specs.Step.{World, reading, run}
+use Rattle.state.specs.Flow.{putAll}
+use Rattle.state.specs.Step.{reading, run}
 use Rattle.state.specs.Calls.{Out, flowOf, stateOf, fed, feedState}
 use Rattle.state.specs.Numbers.{Number, stageNumber, putIn, Short, Fits}
 use Rattle.state.specs.Ranges.{Within, InRange, spelled, bounds, stageBounds}
@@ -30,8 +30,9 @@ use Rattle.state.proofs.Numbers.{stage-same, number-taken}
 use Rattle.state.proofs.RangeNumbers.{stage-fits}
 use Rattle.state.proofs.Ranges.{feed-state-kept}
 use Rattle.state.proofs.State.{the-type}
 use Rattle.numbers.specs.declared.Spelling.{Spelling}
-use Rattle.numbers.specs.Spelling.{Taken, taken, together, spelledOn, isStored, atOf, told}
+use Rattle.numbers.specs.Told.{isStored, atOf, told}
+use Rattle.spelling.specs.Together.{Taken, taken, together, spelledOn}
 
 -- they are there, none of them is the last, and the count stays within the limit
 pub together-more : (more rest n : ℕ) → together more rest n ≤ more
@@ -198,9 +199,9 @@ module _ (q : State) (n leaves now last : ℕ) (s : Stage) (piece : List ℕ) (i
   unfolding bounds
   count-inside = inside .0
 
-  module _ (x : Spelling) (l k : ℕ) (ex : x ≡ told (stageNumber s)) (el : l ≡ least (length piece - i - 1) (limit - n)) (ek : k ≡ least (x .more) l) where
+  module _ (x : Spelling) (k : ℕ) (ex : x ≡ told (stageNumber s)) (ek : k ≡ together (x .more) (length piece - i - 1) n) where
     as-defined : k ≡ together (stageNumber s .more) (length piece - i - 1) n
-    as-defined = rw (ek, el, ex) refl
+    as-defined = rw (ek, ex) refl
 
     pub count-fits : n + k ≤ limit
     count-fits = rw as-defined (together-limit (stageNumber s .more) (length piece - i - 1) n count-inside)
@@ -211,7 +212,7 @@ module _ (q : State) (n leaves now last : ℕ) (s : Stage) (piece : List ℕ) (i
     pub number-fits : i < length piece → workBytes ≤ length work →
         (x ≡ told (stageNumber s)) × Fits (stageNumber s) × (k ≤ x .more) × (i + k ≤ length piece) × (workBytes ≤ length work)
     number-fits h long =
-        (ex, stage-fits s now stage-inside, rw ek (least-first (x .more) l), omega (arith, place-fits h), long)
+        (ex, stage-fits s now stage-inside, rw ek (together-more (x .more) (length piece - i - 1) n), omega (arith, place-fits h), long)
 
     pub nothing-taken : k ≡ 0 → (taken (state.Reading n leaves now last s) i work ≡ spelledOn q piece i work) × InRange (state.Reading n leaves now last s)
     nothing-taken e = (rw same (none-taken s n leaves now last i piece work (sym as-defined ∙ e)), inside)

@@ -1,5 +1,5 @@
 // States made from the numbers that a word of a script gives.
-use crate::text::nth;
+use data::text::nth;
 use machine::Head;
 use machine::Refusal;
 use state::Level;
