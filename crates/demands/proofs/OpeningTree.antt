@@ -28,7 +28,7 @@ use Rattle.state.specs.declared.Index.{Index}
 use Rattle.state.specs.Flow.{Flow, Left, left}
 use Rattle.state.specs.Rows.{is, bodyLength, topLengths, openingFaults}
 use Rattle.state.specs.Sidx.{Place, topmost, sumFaults}
-use Rattle.state.proofs.Cuts.{bytes-first}
+use Rattle.state.proofs.Cuts.{bytes-first, all-drop}
 use Rattle.state.specs.Opening.{Opened, passed, indexed, spanOf, openingBox, closeOpening, opening}
 use Rattle.descent.specs.Sidx.{sidxD}
 use Rattle.descent.specs.Opening.{skipTo, stypD, openingBodyD, openingD}
@@ -114,12 +114,6 @@ bodyIn (some b) = b .body
 
 abbrev pub topBody : List ℕ → tree.Opened → List ℕ
 topBody bs top = bodyIn (firstBox (drop (topEnd (length bs) top - top .size) bs))
-
--- bytes, of which some are left out
-pub all-drop : (m : ℕ) (bs : List ℕ) → AllBytes bs → AllBytes (drop m bs)
-all-drop zero bs a = a
-all-drop (suc m) [] a = a
-all-drop (suc m) (b ∷ bs) a = all-drop m bs (a .1)
 
 -- What is known of a top index found in bytes.
 pub record Topped (bs : List ℕ) (top : tree.Opened) : Type 0 where

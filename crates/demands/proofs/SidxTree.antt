@@ -33,8 +33,8 @@ use Rattle.state.specs.declared.Sums.{Sums}
 use Rattle.state.specs.declared.Index.{Index}
 use Rattle.state.specs.declared.EntryPart.{EntryPart}
 use Rattle.state.specs.declared.EntryPart.the-variants as entry
-use Rattle.state.specs.Flow.{Flow, Left, left, putAll}
-use Rattle.state.specs.Sidx.{Place, topmost, under, partOf, sidxVersionFaults, idFaults, scaleFaults, timeFaults, offsetFaults, countFaults, sumFaults, wideMore, indexOf, sizeOf, entrySizeFaults, plusSize, plusDuration, nextEntry, wordPlace, keepByte}
+use Rattle.state.specs.Flow.{Flow, Left, left, withWork, putAll}
+use Rattle.state.specs.Sidx.{Place, topmost, under, partOf, sidxVersionFaults, idFaults, scaleFaults, timeFaults, offsetFaults, countFaults, sumFaults, wideMore, indexOf, sizeOf, entrySizeFaults, plusSize, plusDuration, nextEntry, wordPlace, numberPlace, keepByte}
 use Rattle.descent.specs.Sidx.{closeD, entryD, entriesD, countedD, countD, reservedD, offsetD, timeD, scaleD, idD, flagsD, versionD, sidxD}
 use Rattle.demands.specs.Told.{upon, clean, indexFrom, entryPart, withEntries, suits}
 use Rattle.demands.proofs.Upons.{upon-unless, upon-okay, clean-append, clean-shows, upon-field}
@@ -42,15 +42,11 @@ use Rattle.demands.proofs.Stored.{put-more, field-some, entryHere, entr
 
 -- what flows with bytes put into the work area
 abbrev pub putInto : Flow → ℕ → List ℕ → Flow
-putInto f i xs = record { leaves = f .leaves; now = f .now; last = f .last; work = putAll (f .work) i xs; table = f .table }
-
--- where a number of an entry is stored
-abbrev placeOf : Place → EntryPart → Sums → ℕ
-placeOf p e s = partOf p + entryBytes * s .next + wordPlace e
+putInto f i xs = withWork f (putAll (f .work) i xs)
 
 -- A number of an entry, each byte of it stored: with `m` bytes to come, they are put one after the other.
 kept : {R : Type 0} (p : Place) (e : EntryPart) (s : Sums) (k : ℕ → Flow → ℕ → List ℕ → Res R Flow Left) (m acc : ℕ) (f : Flow) (n : ℕ) (bs : List ℕ) → m ≤ 4 → m ≤ length bs →
-    fieldD left (keepByte p e s) k m acc f n bs ≡ k (numberFrom acc (take m bs)) (putInto f (placeOf p e s + (4 - m)) (take m bs)) (n + m) (drop m bs)
+    fieldD left (keepByte p e s) k m acc f n bs ≡ k (numberFrom acc (take m bs)) (putInto f (numberPlace p e s + (4 - m)) (take m bs)) (n + m) (drop m bs)
 unfolding fieldD numberFrom putAll
 kept p e s k zero acc f n [] h l = let q : n + 0 ≡ n = omega arith in rw q
 kept p e s k zero acc f n (b ∷ bs) h l = let q : n + 0 ≡ n = omega arith in rw q
@@ -58,7 +54,7 @@ kept p e s k (suc m) acc f n [] h l = absurd (omega arith)
 kept p e s k (suc m) acc f n (b ∷ bs) h l =
     let q : n + suc m ≡ suc n + m = omega arith in
     let q1 : 4 - suc m ≡ 3 - m = omega arith in
-    let q2 : placeOf p e s + (4 - m) ≡ suc (placeOf p e s + (3 - m)) = omega arith in
+    let q2 : numberPlace p e s + (4 - m) ≡ suc (numberPlace p e s + (3 - m)) = omega arith in
     rw (q, q1) (rw q2 at (kept p e s k m (acc * 256 + b) (keepByte p e s f m b) (suc n) bs (omega arith) (omega arith)))
 
 -- what is known of the entries after one more
@@ -408,9 +404,9 @@ version-right span n xs i e found =
 module _ {X : Type 0} (p : Place) (span : Span) (h : Index → Flow → ℕ → List ℕ → Option X) where
   -- a number of an entry whose bytes are there
   word-upon : (e : EntryPart) (s : Sums) (k : ℕ → Flow → ℕ → List ℕ → Res Index Flow Left) (f : Flow) (n : ℕ) (zs ys : List ℕ) → 4 ≤ length zs →
-      upon (fieldD left (keepByte p e s) k 4 0 f n (zs ++ ys)) h ≡ upon (k (number (take 4 zs)) (putInto f (placeOf p e s) (take 4 zs)) (n + 4) (drop 4 zs ++ ys)) h
+      upon (fieldD left (keepByte p e s) k 4 0 f n (zs ++ ys)) h ≡ upon (k (number (take 4 zs)) (putInto f (numberPlace p e s) (take 4 zs)) (n + 4) (drop 4 zs ++ ys)) h
   word-upon e s k f n zs ys l =
-      let q : placeOf p e s + 0 ≡ placeOf p e s = omega arith in
+      let q : numberPlace p e s + 0 ≡ numberPlace p e s = omega arith in
       let t = take-append-le 4 zs ys l in
       let d = drop-append-le 4 zs ys l in
       ap (λ r. upon r h) (kept p e s k 4 0 f n (zs ++ ys) (omega arith) (omega (arith, length-append zs ys)) ∙ rw (t, d, q))

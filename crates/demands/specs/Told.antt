@@ -16,7 +16,7 @@ use Rattle.machine.specs.declared.Header.{Header}
 use Rattle.state.specs.declared.Seen.{Seen}
 use Rattle.state.specs.declared.Span.{Span}
 use Rattle.state.specs.declared.Index.{Index}
-use Rattle.state.specs.Flow.{Flow, Left, putAll}
+use Rattle.state.specs.Flow.{Flow, Left, putAll, withWork}
 use Rattle.state.specs.Traf.{saw}
 use Rattle.state.specs.Sidx.{Place, partOf, idFaults, scaleFaults, timeFaults, offsetFaults, sumFaults}
 
@@ -53,8 +53,7 @@ abbrev pub entryPart : tree.Index → List ℕ → List ℕ
 entryPart i body = drop (length body - entryBytes * length (i .entries)) body
 
 abbrev pub withEntries : Flow → Place → tree.Index → List ℕ → Flow
-withEntries f p i body =
-    record { leaves = f .leaves; now = f .now; last = f .last; work = putAll (f .work) (partOf p) (entryPart i body); table = f .table }
+withEntries f p i body = withWork f (putAll (f .work) (partOf p) (entryPart i body))
 
 -- an index where it stands shows no fault but those that the tree knows of every index
 unfoldable pub suits : Place → Span → tree.Index → ℕ → Bool

@@ -13,7 +13,6 @@ use Rattle.state.specs.declared.State.{State}
 use Rattle.state.specs.declared.State.the-variants as state
 use Rattle.state.specs.declared.FeedAnswer.{FeedAnswer}
 use Rattle.state.specs.declared.FeedAnswer.the-variants as feeds
-use Rattle.state.specs.Flow.{left}
 use Rattle.state.specs.Step.{run}
 use Rattle.state.specs.Calls.{Out, out, flowOf, stateOf, workOf, tableOf, answerOf, fed, feedState, feedOf}
 use Rattle.state.specs.Ranges.{bounds, inRange, InRange}
@@ -44,9 +43,9 @@ module _ (piece : List ℕ) (s : State) (i : ℕ) (work : List ℕ) (on : State)
   spelled-there = subst (λ (t : Taken). (i ≤ t .at) × (t .at < length piece)) (sym e) (spelled-later s piece i work h)
 
   -- and one byte
-  pub number-taken : (table : List ℕ) (s' : State) (work' table' : List ℕ) → InRange s → InRange s' →
+  pub number-and-byte : (table : List ℕ) (s' : State) (work' table' : List ℕ) → InRange s → InRange s' →
       left-with s' work' table' ≡ feedState on (getD piece at 0 ∷ []) work₁ table → Advanced piece s i work table s' (at + 1) work' table'
-  number-taken table s' work' table' r r' e' =
+  number-and-byte table s' work' table' r r' e' =
       let o : Advanced piece on at work₁ table s' (at + 1) work' table' = one-taken piece on at work₁ table s' work' table' (spelled-there .1) r' e' in
       record {
         later = omega (arith, spelled-there .0);

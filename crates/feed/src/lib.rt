@@ -5,6 +5,7 @@ use jump::pass;
 use jump::passing_now;
 use machine::Refusal;
 use range::in_range;
+use spelling::Moved;
 use spelling::spell_on;
 pub use start::start;
 use state::FeedAnswer;
@@ -27,12 +28,6 @@ const WORK_BYTES: usize = 49152;
 pub struct Fed {
     pub answer: FeedAnswer,
     pub state: State,
-}
-
-// A state, and how many bytes of the piece it has taken.
-struct Moved {
-    state: State,
-    at: usize,
 }
 
 // The bytes that pass at once; or else those of a number that are taken together, and one byte.

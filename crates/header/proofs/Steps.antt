@@ -1,13 +1,13 @@
 -- One byte of a header, by how many bytes of its number follow; and what its ranges say of the number so far.
-use Prim.Native.Nat.{ℕ, zero, suc, _+_, _-_, _*_, _^_, _≤_, _<_}
+use Prim.Native.Nat.{ℕ, zero, suc, _+_, _-_, _*_, _≤_, _<_}
 use mathlib.Core.Path.{_≡_, refl, ap}
 use native.Mathlib.Omega.{arith}
-use native.Mathlib.Nat.{pow-le-pow-right}
 use Rattle.machine.specs.Run.{go, done}
 use Rattle.machine.specs.Heads.{header, sized, stepHead}
 use Rattle.machine.specs.declared.Head.the-variants as at
 use Rattle.state.specs.Flow.{Flow, left}
 use Rattle.state.specs.Ranges.{Within, spelled}
+use Rattle.state.proofs.RangeTests.{spelled-within}
 
 module _ (end : ℕ) (f : Flow) (n b : ℕ) where
   pub size-last : (pos more acc : ℕ) → more ≡ 0 → stepHead left end (at.Size pos more acc) f n b ≡ go (at.Kind pos (acc * 256 + b) 3 0) f
@@ -42,7 +42,4 @@ module _ (end : ℕ) (f : Flow) (n b : ℕ) where
 
 -- what the bytes before a number's last spell, of at most eight bytes
 pub spelled-small : (most more acc : ℕ) → most ≤ 7 → Within (spelled most more acc) → acc < 72057594037927936
-spelled-small most more acc h w =
-    let j : most - more ≤ 7 = omega arith in
-    let k : 256 ^ (most - more) ≤ 256 ^ 7 = pow-le-pow-right (omega arith) j in
-    omega (arith, w .1 .0)
+spelled-small most more acc h w = spelled-within most more 7 0 acc (omega arith) (omega arith) w .1 .0

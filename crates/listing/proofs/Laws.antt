@@ -116,7 +116,7 @@ pub heading-length : (a : FinishAnswer) → length (headingText a) ≤ 49
 heading-length (Listed leaves) = omega (arith, spaced-length (leaves ∷ []))
 heading-length (Refused r) = omega (arith, spaced-length (r .number ∷ r .place ∷ []))
 
-pub leaf-length : (leaf : ℕ) (numbers : List ℕ) → length (leafText leaf numbers) ≤ 20 + 21 * length numbers
+leaf-length : (leaf : ℕ) (numbers : List ℕ) → length (leafText leaf numbers) ≤ 20 + 21 * length numbers
 leaf-length leaf numbers = omega (arith, decimal-length 20 leaf, spaced-length numbers, length-append (decimal leaf) (spaced numbers))
 
 -- the line of a leaf whose record the table holds, and of one whose record it does not hold

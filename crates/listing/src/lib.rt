@@ -3,6 +3,7 @@ ghost use mathlib.Core.List.{[], _∷_, _++_};
 ghost use mathlib.Core.Path.{_≡_};
 ghost use Prim.Native.Nat.{_+_, _*_, _≤_, _<_};
 ghost use lib.ListN.{length, take, drop};
+ghost use Rattle.segment.specs.Constants.{recordNumbers};
 ghost use Rattle.listing.specs.Text.{decimalIn, spaced, okWord, refusedText, headingText, leafText, leafAfter, lineOf, Adds};
 use machine::Refusal;
 use state::FinishAnswer;
@@ -123,8 +124,8 @@ pub fn leaf_line(number: u64, numbers: [u64; 6]) -> Line
 
 // The line of the leaf with so many before it, whose record the leaf table holds.
 fn leaf_at(table: &[u64], i: usize) -> Line
-    requires { ⌜ 6 * i + 6 ≤ length (now table) ⌝ }
-    ensures { λ r. ⌜ r ≡ lineOf (leafText (i + 1) (take 6 (drop (6 * i) (now (table .entry))))) ⌝ }
+    requires { ⌜ recordNumbers * i + recordNumbers ≤ length (now table) ⌝ }
+    ensures { λ r. ⌜ r ≡ lineOf (leafText (i + 1) (take recordNumbers (drop (recordNumbers * i) (now (table .entry))))) ⌝ }
 {
     let at = NUMBERS * i;
     let numbers = [

@@ -22,31 +22,34 @@ ghost use mathlib.Core.Path.{_≡_};
 ghost use mathlib.Core.Bool.{false};
 ghost use Rattle.state.specs.Sidx.{Place};
 ghost use Rattle.state.specs.Numbers.{headNumber, sidxNumber, trafNumber, moofNumber, leafNumber, openingNumber, gapNumber, innerNumber, stageNumber};
+ghost use Rattle.state.specs.declared.Stage.the-variants as stage;
 ghost use Rattle.state.specs.Ranges.{Within, sidxBounds, openingBounds, innerBounds, stageBounds};
 ghost use Rattle.index.specs.Views.{placeOf, Shallow};
-ghost use Rattle.numbers.specs.Told.{told};
+ghost use Rattle.numbers.specs.Views.{told};
 
-// So many bytes follow the next one, those before it spell `acc`, and where they are stored, the next one goes to `at`.
-pub struct Spelling {
+// The number at hand: so many bytes follow its next one, those before it spell `acc`, and where they are stored, its next one goes
+// to `place`.
+pub struct AtHand {
     pub more: u64,
     pub acc: u64,
     pub stored: bool,
-    pub at: u64,
+    pub place: u64,
 }
 
 // No number is being read, or one whose bytes are not stored.
-fn unstored(more: u64, acc: u64) -> Spelling
-    ensures { λ r. ⌜ r ≡ record { more = more; acc = acc; stored = false; at = 0 } ⌝ }
+fn unstored(more: u64, acc: u64) -> AtHand
+    ensures { λ r. ⌜ r ≡ record { more = more; acc = acc; stored = false; place = 0 } ⌝ }
 {
-    Spelling {
+    AtHand {
         more,
         acc,
         stored: false,
-        at: 0,
+        place: 0,
     }
 }
 
-fn head_number(h: Head) -> Spelling
+// The number at hand, at each level; and, by `.._again`, what holds it with another `more` and `acc`.
+fn head_number(h: Head) -> AtHand
     ensures { λ r. ⌜ r ≡ told (headNumber h) ⌝ }
 {
     match h {
@@ -102,7 +105,7 @@ fn head_again(h: Head, more: u64, acc: u64) -> Head
     }
 }
 
-fn sidx_number(p: Where, s: Sidx) -> Spelling
+fn sidx_number(p: Where, s: Sidx) -> AtHand
     requires { ⌜ Shallow p × Within (sidxBounds s) ⌝ }
     ensures { λ r. ⌜ r ≡ told (sidxNumber (placeOf p) s) ⌝ }
 {
@@ -119,11 +122,11 @@ fn sidx_number(p: Where, s: Sidx) -> Spelling
             sums,
             more,
             acc,
-        } => Spelling {
+        } => AtHand {
             more,
             acc,
             stored: true,
-            at: byte_place(p, part, sums, more),
+            place: byte_place(p, part, sums, more),
         },
     }
 }
@@ -159,7 +162,7 @@ fn sidx_again(s: Sidx, more: u64, acc: u64) -> Sidx
     }
 }
 
-fn traf_number(s: TrafBoxes) -> Spelling
+fn traf_number(s: TrafBoxes) -> AtHand
     ensures { λ r. ⌜ r ≡ told (trafNumber s) ⌝ }
 {
     match s {
@@ -195,7 +198,7 @@ fn traf_again(s: TrafBoxes, more: u64, acc: u64) -> TrafBoxes
     }
 }
 
-fn moof_number(s: MoofBoxes) -> Spelling
+fn moof_number(s: MoofBoxes) -> AtHand
     ensures { λ r. ⌜ r ≡ told (moofNumber s) ⌝ }
 {
     match s {
@@ -222,7 +225,7 @@ fn moof_again(s: MoofBoxes, more: u64, acc: u64) -> MoofBoxes
     }
 }
 
-fn leaf_number(s: LeafBoxes) -> Spelling
+fn leaf_number(s: LeafBoxes) -> AtHand
     ensures { λ r. ⌜ r ≡ told (leafNumber s) ⌝ }
 {
     match s {
@@ -252,7 +255,7 @@ fn leaf_again(s: LeafBoxes, more: u64, acc: u64) -> LeafBoxes
     }
 }
 
-fn opening_number(s: OpeningBoxes) -> Spelling
+fn opening_number(s: OpeningBoxes) -> AtHand
     requires { ⌜ Within (openingBounds s) ⌝ }
     ensures { λ r. ⌜ r ≡ told (openingNumber s) ⌝ }
 {
@@ -303,7 +306,7 @@ fn opening_again(s: OpeningBoxes, more: u64, acc: u64) -> OpeningBoxes
     }
 }
 
-fn gap_number(s: GapBoxes) -> Spelling
+fn gap_number(s: GapBoxes) -> AtHand
     ensures { λ r. ⌜ r ≡ told (gapNumber s) ⌝ }
 {
     match s {
@@ -321,7 +324,7 @@ fn gap_again(s: GapBoxes, more: u64, acc: u64) -> GapBoxes
     }
 }
 
-fn inner_number(top: Top, ls: Levels, slot: Slot, s: InnerBox) -> Spelling
+fn inner_number(top: Top, ls: Levels, slot: Slot, s: InnerBox) -> AtHand
     requires { ⌜ Within (innerBounds ls s) ⌝ }
     ensures { λ r. ⌜ r ≡ told (innerNumber top ls slot s) ⌝ }
 {
@@ -340,8 +343,8 @@ fn inner_again(s: InnerBox, more: u64, acc: u64) -> InnerBox
     }
 }
 
-// The number at hand.
-pub fn stage_number(s: Stage, now: u64) -> Spelling
+// The number at hand. `now` is asked for only by the contract: the ranges of a stage speak of it.
+pub fn stage_number(s: Stage, now: u64) -> AtHand
     requires { ⌜ Within (stageBounds s now) ⌝ }
     ensures { λ r. ⌜ r ≡ told (stageNumber s) ⌝ }
 {
@@ -366,6 +369,17 @@ pub fn stage_number(s: Stage, now: u64) -> Spelling
             slot,
             first,
         } => inner_number(top, levels, slot, first),
+    }
+}
+
+fn in_leaf(top: Top, levels: Levels, slot: Slot, boxes: LeafBoxes) -> Stage
+    ensures { λ r. ⌜ r ≡ stage.Leaf top levels slot boxes ⌝ }
+{
+    Stage::Leaf {
+        top,
+        levels,
+        slot,
+        boxes,
     }
 }
 
@@ -395,12 +409,7 @@ pub fn stage_again(s: Stage, more: u64, acc: u64) -> Stage
             levels,
             slot,
             boxes,
-        } => Stage::Leaf {
-            top,
-            levels,
-            slot,
-            boxes: leaf_again(boxes, more, acc),
-        },
+        } => in_leaf(top, levels, slot, leaf_again(boxes, more, acc)),
         Stage::Inner {
             top,
             levels,

@@ -6,76 +6,56 @@ use mathlib.Core.Bool.{Bool, true, false}
 use mathlib.Core.Logic.{inl, inr}
 use mathlib.Core.Option.{Option, some, none}
 use native.Mathlib.Omega.{arith}
-use native.Mathlib.Nat.{pow-le-pow-right}
 use types.Run.{OneOf}
 use denote.Enum.Declared.{tagOf}
 use lib.ListN.{length, getD, take, drop, take-append-drop, length-drop, drop-of-length-le}
 use lib.Seq.{length-take-le, take-all}
 use Rattle.basics.specs.Bytes.{numberFrom, AllBytes}
 use Rattle.basics.specs.Choose.{pick}
+use Rattle.basics.proofs.Picks.{pick-holds}
 use Rattle.segment.specs.Constants.{limit, workBytes}
 use Rattle.state.specs.declared.FeedAnswer.{FeedAnswer}
 use Rattle.state.specs.declared.Stage.{Stage}
 use Rattle.state.specs.declared.State.{State}
 use Rattle.state.specs.declared.State.the-variants as state
 use Rattle.state.specs.Flow.{putAll}
-use Rattle.state.specs.Step.{reading, run}
+use Rattle.state.specs.Step.{run}
 use Rattle.state.specs.Calls.{Out, flowOf, stateOf, fed, feedState}
-use Rattle.state.specs.Numbers.{Number, stageNumber, putIn, Short, Fits}
+use Rattle.state.specs.Numbers.{stageNumber, stageOn, workOn, putIn, Short, Fits}
 use Rattle.state.specs.Ranges.{Within, InRange, spelled, bounds, stageBounds}
 use Rattle.state.specs.Jump.{least}
-use Rattle.state.proofs.Cuts.{bytes-first, bytes-second}
+use Rattle.state.proofs.Cuts.{bytes-first, all-drop}
 use Rattle.state.proofs.Jump.{least-first, least-second}
-use Rattle.state.proofs.Numbers.{stage-same, number-taken}
+use Rattle.state.proofs.Numbers.{none-on, none-put, number-taken}
 use Rattle.state.proofs.RangeNumbers.{stage-fits}
+use Rattle.state.proofs.RangeTests.{spelled-within}
 use Rattle.state.proofs.Ranges.{feed-state-kept}
 use Rattle.state.proofs.State.{the-type}
-use Rattle.numbers.specs.declared.Spelling.{Spelling}
-use Rattle.numbers.specs.Told.{isStored, atOf, told}
-use Rattle.spelling.specs.Together.{Taken, taken, together, spelledOn}
+use Rattle.numbers.specs.declared.AtHand.{AtHand}
+use Rattle.numbers.specs.Views.{isStored, nextPlace, told}
+use Rattle.spelling.specs.Together.{Taken, taken, together, togetherNow, spelledOn}
 
--- they are there, none of them is the last, and the count stays within the limit
-pub together-more : (more rest n : ℕ) → together more rest n ≤ more
+-- none of them is the last, they are there, and the count stays within the limit
+together-more : (more rest n : ℕ) → together more rest n ≤ more
 together-more more rest n = least-first more (least rest (limit - n))
 
-pub together-rest : (more rest n : ℕ) → together more rest n ≤ rest
+together-rest : (more rest n : ℕ) → together more rest n ≤ rest
 together-rest more rest n = omega (arith, least-second more (least rest (limit - n)), least-first rest (limit - n))
 
-pub together-limit : (more rest n : ℕ) → n ≤ limit → n + together more rest n ≤ limit
+together-limit : (more rest n : ℕ) → n ≤ limit → n + together more rest n ≤ limit
 together-limit more rest n low = omega (arith, low, least-second more (least rest (limit - n)), least-second rest (limit - n))
 
 -- what is stored of them
-pub stored-same : (place : Option ℕ) (more k : ℕ) (work xs : List ℕ) → putAll work (atOf place more) (take (pick (isStored place) k 0) xs) ≡ putIn place more work (take k xs)
-unfolding isStored atOf putIn putAll pick
+stored-same : (place : Option ℕ) (more k : ℕ) (work xs : List ℕ) → putAll work (nextPlace place more) (take (pick (isStored place) k 0) xs) ≡ putIn place more work (take k xs)
+unfolding isStored nextPlace putIn putAll pick
 stored-same none more k work xs = refl
 stored-same (some i) more k work xs = refl
 
 -- their places are inside the work area
-pub stored-fits : (place : Option ℕ) (more k : ℕ) → Short place more → k ≤ more → atOf place more + pick (isStored place) k 0 ≤ workBytes
-unfolding isStored atOf Short pick
+stored-fits : (place : Option ℕ) (more k : ℕ) → Short place more → k ≤ more → nextPlace place more + pick (isStored place) k 0 ≤ workBytes
+unfolding isStored nextPlace Short pick
 stored-fits none more k short most = omega arith
 stored-fits (some i) more k short most = omega (arith, short .0, short .1)
-
-put-none : (place : Option ℕ) (more : ℕ) (work : List ℕ) → putIn place more work [] ≡ work
-unfolding putIn putAll
-put-none none more work = refl
-put-none (some i) more work = refl
-
--- where none is taken, nothing changes
-again-none : (s : Stage) (n leaves now last i k : ℕ) (piece work : List ℕ) → k ≡ 0 → let x : Number Stage = stageNumber s in let bytes : List ℕ = take k (drop i piece) in
-    taken (state.Reading n leaves now last s) i work
-    ≡ taken (state.Reading (n + k) leaves now last (x .again (x .more - k) (numberFrom (x .acc) bytes))) (i + k) (putIn (x .place) (x .more) work bytes)
-unfolding numberFrom
-again-none s n leaves now last i k piece work e =
-    let a : n + 0 ≡ n = omega arith in
-    let b : i + 0 ≡ i = omega arith in
-    let c : stageNumber s .more - 0 ≡ stageNumber s .more = omega arith in
-    rw (e, a, b, c, stage-same s, put-none (stageNumber s .place) (stageNumber s .more) work) refl
-
-none-taken : (s : Stage) (n leaves now last i : ℕ) (piece work : List ℕ) → together (stageNumber s .more) (length piece - i - 1) n ≡ 0 →
-    taken (state.Reading n leaves now last s) i work ≡ spelledOn (state.Reading n leaves now last s) piece i work
-unfolding spelledOn
-none-taken s n leaves now last i piece work e = again-none s n leaves now last i (together (stageNumber s .more) (length piece - i - 1) n) piece work e
 
 -- a state that reads no more stays as it is
 pub others-stay : (s : State) (piece : List ℕ) (i : ℕ) (work : List ℕ) → OneOf (1 ∷ 2 ∷ 3 ∷ []) (tagOf the-type s) → taken s i work ≡ spelledOn s piece i work
@@ -87,61 +67,49 @@ others-stay (state.Ended n leaves top) piece i work e = refl
 others-stay (state.Refused n leaves x) piece i work e = refl
 others-stay (state.Accepted n leaves top) piece i work e = refl
 
--- what is left of a number by some bytes has less to spell
-pub fewer : (k more acc : ℕ) → k ≤ more → Within (spelled 7 more acc) → Within (spelled 7 k acc)
-fewer k more acc h w =
-    let j : 7 - more ≤ 7 - k = omega arith in
-    let m : 256 ^ (7 - more) ≤ 256 ^ (7 - k) = pow-le-pow-right (omega arith) j in
-    (omega (arith, w .0), (omega (arith, w .1 .0), tt))
-
-pick-most : (b : Bool) (k : ℕ) → pick b k 0 ≤ k
-unfolding pick
-pick-most true k = omega arith
-pick-most false k = omega arith
-
 -- The stage whose number is told as `x`, and `k` of its bytes.
-module _ (s : Stage) (x : Spelling) (k : ℕ) (piece : List ℕ) (i : ℕ) (work : List ℕ) (e : x ≡ told (stageNumber s)) where
+module _ (s : Stage) (x : AtHand) (k : ℕ) (piece : List ℕ) (i : ℕ) (work : List ℕ) (e : x ≡ told (stageNumber s)) where
   pub acc-fits : Fits (stageNumber s) → k ≤ x .more → Within (spelled 7 k (x .acc))
-  acc-fits fits most = fewer k (x .more) (x .acc) most (rw e (fits .0))
+  acc-fits fits most =
+      let w : Within (spelled 7 (x .more) (x .acc)) = rw e (fits .0) in
+      spelled-within 7 (x .more) 7 k (x .acc) (omega (arith, w .0)) (omega arith) w
 
   pub bytes-fit : (m : ℕ) → m ≡ pick (x .stored) k 0 → Fits (stageNumber s) → k ≤ x .more → i + k ≤ length piece → workBytes ≤ length work →
-      (i + m ≤ length piece) × (x .at + m ≤ length work)
+      (i + m ≤ length piece) × (x .place + m ≤ length work)
   bytes-fit m em fits most there long =
-      let a : m ≤ k = rw em (pick-most (x .stored) k) in
-      let b : x .at + m ≤ workBytes = rw (em, e) (stored-fits (stageNumber s .place) (stageNumber s .more) k (fits .1) (rw e at most)) in
+      let a : m ≤ k = rw em (pick-holds (λ (j : ℕ). j ≤ k) (x .stored) k 0 (λ t. omega arith) (λ t. omega arith)) in
+      let b : x .place + m ≤ workBytes = rw (em, e) (stored-fits (stageNumber s .place) (stageNumber s .more) k (fits .1) (rw e at most)) in
       (omega (arith, there), omega (arith, long))
 
   pub stage-moves : (m acc : ℕ) (r : Stage) (work' : List ℕ) → m ≡ pick (x .stored) k 0 → acc ≡ numberFrom (x .acc) (take k (drop i piece)) →
-      work' ≡ putAll work (x .at) (take m (drop i piece)) → r ≡ stageNumber s .again (x .more - k) acc →
-      (r ≡ stageNumber s .again (stageNumber s .more - k) (numberFrom (stageNumber s .acc) (take k (drop i piece))))
-      × (work' ≡ putIn (stageNumber s .place) (stageNumber s .more) work (take k (drop i piece)))
+      work' ≡ putAll work (x .place) (take m (drop i piece)) → r ≡ stageNumber s .again (x .more - k) acc →
+      (r ≡ stageOn s k (take k (drop i piece))) × (work' ≡ workOn s work (take k (drop i piece)))
   stage-moves m acc r work' em ea ew er =
       (rw (er, ea, e) refl, rw (ew, em, e) (stored-same (stageNumber s .place) (stageNumber s .more) k work (drop i piece)))
 
-all-fit : (xs : List ℕ) → ((i : ℕ) → getD xs i 0 < 256) → AllBytes xs
-all-fit [] f = tt
-all-fit (x ∷ xs) f = (f 0, all-fit xs (λ (i : ℕ). f (suc i)))
+-- a list with a byte at each place
+each-byte-all : (xs : List ℕ) → ((i : ℕ) → getD xs i 0 < 256) → AllBytes xs
+each-byte-all [] f = tt
+each-byte-all (x ∷ xs) f = (f 0, each-byte-all xs (λ (i : ℕ). f (suc i)))
 
 -- bytes of a piece of bytes
 bytes-inside : (piece : List ℕ) (i k : ℕ) → ((j : ℕ) → getD piece j 0 < 256) → AllBytes (take k (drop i piece))
 bytes-inside piece i k f =
-    let a : AllBytes (take i piece ++ drop i piece) = rw (take-append-drop i piece) (all-fit piece f) in
-    let b : AllBytes (take k (drop i piece) ++ drop k (drop i piece)) = rw (take-append-drop k (drop i piece)) (bytes-second (take i piece) (drop i piece) a) in
-    bytes-first (take k (drop i piece)) (drop k (drop i piece)) b
+    let a : AllBytes (drop i piece) = all-drop i piece (each-byte-all piece f) in
+    bytes-first (take k (drop i piece)) (drop k (drop i piece)) (rw (take-append-drop k (drop i piece)) a)
 
 -- `k` bytes of the number of a reading in its ranges: the piece reads on after them as it did
 module _ (s : Stage) (n leaves now last : ℕ) (r : InRange (state.Reading n leaves now last s)) where
+  -- the state after them
   unfoldable after : ℕ → List ℕ → State
-  after k bytes = state.Reading (n + k) leaves now last (stageNumber s .again (stageNumber s .more - k) (numberFrom (stageNumber s .acc) bytes))
+  after k bytes = state.Reading (n + k) leaves now last (stageOn s k bytes)
 
   number-fed : (k i : ℕ) (piece work table : List ℕ) → k ≤ stageNumber s .more → n + k ≤ limit → i + k ≤ length piece →
-      feedState (after k (take k (drop i piece))) (drop (i + k) piece) (putIn (stageNumber s .place) (stageNumber s .more) work (take k (drop i piece))) table
+      feedState (after k (take k (drop i piece))) (drop (i + k) piece) (workOn s work (take k (drop i piece))) table
       ≡ feedState (state.Reading n leaves now last s) (drop i piece) work table
   unfolding feedState bounds after
-  number-fed zero i piece work table most low there =
-      sym (ap (λ (t : Taken). feedState (t .state) (drop (t .at) piece) (t .work) table) (again-none s n leaves now last i 0 piece work refl))
-  number-fed (suc k) i piece work table most low there =
-      ap fed (sym (number-taken piece i (suc k) n s (flowOf leaves now last work table) there low most (omega arith) (stage-fits s now (r .1 .1) .1)))
+  number-fed k i piece work table most low there =
+      ap fed (sym (number-taken k piece i n s (flowOf leaves now last work table) there low most (stage-fits s now (r .1 .1) .1)))
 
   number-inside : (k : ℕ) (bytes : List ℕ) → length bytes ≡ k → AllBytes bytes → k ≤ stageNumber s .more → n + k ≤ limit → InRange (after k bytes)
   unfolding feedState run stateOf after
@@ -165,7 +133,7 @@ pub spelled-fed : (s : State) (piece : List ℕ) (i : ℕ) (work table : List �
     feedState (t .state) (drop (t .at) piece) (t .work) table ≡ feedState s (drop i piece) work table
 unfolding spelledOn bounds after
 spelled-fed (state.Reading n leaves now last s) piece i work table r h =
-    let k : ℕ = together (stageNumber s .more) (length piece - i - 1) n in
+    let k : ℕ = togetherNow s n piece i in
     number-fed s n leaves now last r k i piece work table (together-more (stageNumber s .more) (length piece - i - 1) n)
     (together-limit (stageNumber s .more) (length piece - i - 1) n (r .0))
     (omega (arith, h, together-rest (stageNumber s .more) (length piece - i - 1) n))
@@ -177,7 +145,7 @@ spelled-fed (state.Accepted n leaves top) piece i work table r h = refl
 pub spelled-inside : (s : State) (piece : List ℕ) (i : ℕ) (work : List ℕ) → InRange s → i < length piece → ((j : ℕ) → getD piece j 0 < 256) → InRange (spelledOn s piece i work .state)
 unfolding spelledOn bounds after
 spelled-inside (state.Reading n leaves now last s) piece i work r h f =
-    let k : ℕ = together (stageNumber s .more) (length piece - i - 1) n in
+    let k : ℕ = togetherNow s n piece i in
     let most : k ≤ length piece - i - 1 = together-rest (stageNumber s .more) (length piece - i - 1) n in
     number-inside s n leaves now last r k (take k (drop i piece)) (length-take-le k (drop i piece) (simp length-drop (omega (arith, most)))) (bytes-inside piece i k f)
     (together-more (stageNumber s .more) (length piece - i - 1) n)
@@ -199,8 +167,8 @@ module _ (q : State) (n leaves now last : ℕ) (s : Stage) (piece : List ℕ) (i
   unfolding bounds
   count-inside = inside .0
 
-  module _ (x : Spelling) (k : ℕ) (ex : x ≡ told (stageNumber s)) (ek : k ≡ together (x .more) (length piece - i - 1) n) where
-    as-defined : k ≡ together (stageNumber s .more) (length piece - i - 1) n
+  module _ (x : AtHand) (k : ℕ) (ex : x ≡ told (stageNumber s)) (ek : k ≡ together (x .more) (length piece - i - 1) n) where
+    as-defined : k ≡ togetherNow s n piece i
     as-defined = rw (ek, ex) refl
 
     pub count-fits : n + k ≤ limit
@@ -215,11 +183,14 @@ module _ (q : State) (n leaves now last : ℕ) (s : Stage) (piece : List ℕ) (i
         (ex, stage-fits s now stage-inside, rw ek (together-more (x .more) (length piece - i - 1) n), omega (arith, place-fits h), long)
 
     pub nothing-taken : k ≡ 0 → (taken (state.Reading n leaves now last s) i work ≡ spelledOn q piece i work) × InRange (state.Reading n leaves now last s)
-    nothing-taken e = (rw same (none-taken s n leaves now last i piece work (sym as-defined ∙ e)), inside)
+    unfolding spelledOn
+    nothing-taken e =
+        let z : togetherNow s n piece i ≡ 0 = sym as-defined ∙ e in
+        let a : n + 0 ≡ n = omega arith in
+        let b : i + 0 ≡ i = omega arith in
+        (rw (same, z, a, b, none-on s, none-put s work) refl, inside)
 
-    pub number-taken-on : (next : Stage) (work' : List ℕ) →
-        (next ≡ stageNumber s .again (stageNumber s .more - k) (numberFrom (stageNumber s .acc) (take k (drop i piece))))
-        × (work' ≡ putIn (stageNumber s .place) (stageNumber s .more) work (take k (drop i piece))) →
+    pub number-taken-on : (next : Stage) (work' : List ℕ) → (next ≡ stageOn s k (take k (drop i piece))) × (work' ≡ workOn s work (take k (drop i piece))) →
         taken (state.Reading (n + k) leaves now last next) (i + k) work' ≡ spelledOn q piece i work
     unfolding spelledOn
     number-taken-on next work' e = rw (same, e .0, e .1, as-defined) refl

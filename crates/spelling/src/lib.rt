@@ -1,7 +1,7 @@
 // The bytes of the number that is being read, taken together: none of them is its last, and the state after them.
 use header::spelled;
 use jump::lesser;
-use numbers::Spelling;
+use numbers::AtHand;
 use numbers::stage_again;
 use numbers::stage_number;
 use state::LIMIT;
@@ -14,13 +14,13 @@ ghost use Rattle.basics.specs.Bytes.{numberFrom};
 ghost use Rattle.basics.specs.Choose.{pick};
 ghost use Rattle.segment.specs.Constants.{limit, workBytes};
 ghost use Rattle.state.specs.Flow.{putAll};
-ghost use Rattle.state.specs.Numbers.{stageNumber, putIn, Fits};
+ghost use Rattle.state.specs.Numbers.{stageNumber, stageOn, workOn, Fits};
 ghost use Rattle.state.specs.Ranges.{Within, InRange, spelled as spelledBounds};
-ghost use Rattle.numbers.specs.Told.{told};
+ghost use Rattle.numbers.specs.Views.{told};
 ghost use Rattle.spelling.specs.Together.{taken, together, spelledOn};
 
 // A state, and how many bytes of the piece are taken before it.
-pub struct Spelled {
+pub struct Moved {
     pub state: State,
     pub at: usize,
 }
@@ -52,7 +52,7 @@ fn store_bytes(work: &mut [u8], at: usize, piece: &[u8], i: usize, k: usize)
 }
 
 // How many of `k` bytes are stored.
-fn stored_of(x: Spelling, k: u64) -> u64
+fn stored_of(x: AtHand, k: u64) -> u64
     ensures { λ r. ⌜ r ≡ pick (x .stored) k 0 ⌝ }
 {
     if x.stored {
@@ -62,17 +62,17 @@ fn stored_of(x: Spelling, k: u64) -> u64
 }
 
 // The stage after `k` bytes of its number, none of them the last.
-fn stage_on(s: Stage, x: Spelling, k: u64, piece: &[u8], i: usize, work: &mut [u8]) -> Stage
+fn stage_on(s: Stage, x: AtHand, k: u64, piece: &[u8], i: usize, work: &mut [u8]) -> Stage
     requires { ⌜ (x ≡ told (stageNumber s)) × Fits (stageNumber s) × (k ≤ x .more) × (i + k ≤ length (now piece)) × (workBytes ≤ length (now work)) ⌝ }
-    ensures { λ r. ⌜ (r ≡ stageNumber s .again (stageNumber s .more - k) (numberFrom (stageNumber s .acc) (take k (drop i (now (piece .entry)))))) × (now (work .exit) ≡ putIn (stageNumber s .place) (stageNumber s .more) (now (work .entry)) (take k (drop i (now (piece .entry))))) ⌝ }
+    ensures { λ r. ⌜ (r ≡ stageOn s k (take k (drop i (now (piece .entry))))) × (now (work .exit) ≡ workOn s (now (work .entry)) (take k (drop i (now (piece .entry))))) ⌝ }
 {
     let acc = spell_bytes(x.acc, piece, i, k as usize);
-    store_bytes(work, x.at as usize, piece, i, stored_of(x, k) as usize);
+    store_bytes(work, x.place as usize, piece, i, stored_of(x, k) as usize);
     stage_again(s, x.more - k, acc)
 }
 
 // How many of `rest` bytes, with `n` before them, are taken together.
-fn taken_together(x: Spelling, rest: u64, n: u64) -> u64
+fn taken_together(x: AtHand, rest: u64, n: u64) -> u64
     requires { ⌜ n ≤ limit ⌝ }
     ensures { λ r. ⌜ r ≡ together (x .more) rest n ⌝ }
 {
@@ -80,7 +80,7 @@ fn taken_together(x: Spelling, rest: u64, n: u64) -> u64
 }
 
 // The bytes of the number at hand are taken together, as far as the piece has them and another byte; none of them is the number's last.
-pub fn spell_on(s: State, piece: &[u8], i: usize, work: &mut [u8]) -> Spelled
+pub fn spell_on(s: State, piece: &[u8], i: usize, work: &mut [u8]) -> Moved
     requires { ⌜ (workBytes ≤ length (now work)) × InRange s × (i < length (now piece)) ⌝ }
     ensures { λ r. ⌜ (taken (r .state) (r .at) (now (work .exit)) ≡ spelledOn s (now (piece .entry)) i (now (work .entry))) × InRange (r .state) ⌝ }
 {
@@ -92,15 +92,16 @@ pub fn spell_on(s: State, piece: &[u8], i: usize, work: &mut [u8]) -> Spelled
         stage,
     } = s
     else {
-        return Spelled { state: s, at: i };
+        return Moved { state: s, at: i };
     };
     let x = stage_number(stage, now);
+    // Where none is taken the state goes back as it came: it is not made anew.
     let k = taken_together(x, (piece.len() - i - 1) as u64, count);
     if k == 0 {
-        return Spelled { state: s, at: i };
+        return Moved { state: s, at: i };
     }
     let next = stage_on(stage, x, k, piece, i, work);
-    Spelled {
+    Moved {
         state: State::Reading {
             count: count + k,
             leaves,

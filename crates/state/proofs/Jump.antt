@@ -102,7 +102,7 @@ unfolding stepGap gapSkips
 gap-stays end (gaps.Head x) f n b h = absurd (omega arith)
 gap-stays end (gaps.Body stop) f n b h = body-moves (gapBoxes end) wrapGap tt stop stop f f n b (skip-stays tt stop stop n f h)
 
-pub stage-stays : (s : Stage) (f : Flow) (n b : ℕ) → suc n < skips s → stepStage s f n b ≡ go s f
+stage-stays : (s : Stage) (f : Flow) (n b : ℕ) → suc n < skips s → stepStage s f n b ≡ go s f
 unfolding stepStage skips lift
 stage-stays (stage.Opening brand s) f n b h = rw (opening-stays brand s f n b h)
 stage-stays (stage.Gap top l end s) f n b h = rw (gap-stays end s f n b h)

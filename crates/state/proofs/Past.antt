@@ -10,8 +10,6 @@ use lib.ListN.{length, getD}
 use Rattle.basics.specs.Choose.{pick}
 use Rattle.basics.specs.Bytes.{AllBytes}
 use Rattle.segment.specs.Constants.{limit, workBytes, levelBytes}
-use Rattle.state.specs.declared.EntryPart.{EntryPart}
-use Rattle.state.specs.declared.EntryPart.the-variants as entry
 use Rattle.state.specs.declared.Sidx.{Sidx}
 use Rattle.state.specs.declared.Sidx.the-variants as sidx
 use Rattle.state.specs.declared.OpeningBody.{OpeningBody}
@@ -31,14 +29,9 @@ use Rattle.state.specs.Named.{sidxByte, openingBodyByte, openingByte, st
 use Rattle.state.proofs.Frames.{work-length, feed-spared}
 use Rattle.state.proofs.Cuts.{back-state, feed-inside}
 use Rattle.state.proofs.Kept.{feed-cases}
+use Rattle.state.proofs.RangeNumbers.{word-most}
 use Rattle.state.proofs.RangeTests.{in-range, within-second}
 use Rattle.state.proofs.Ranges.{step-kept}
-
-word-place : (e : EntryPart) → wordPlace e ≤ 8
-unfolding wordPlace
-word-place entry.Size = omega arith
-word-place entry.Duration = omega arith
-word-place entry.Sap = omega arith
 
 -- an entry's byte is stored inside its level's part
 sidx-place : (p : Place) (s : Sidx) (i : ℕ) → Within (sidxBounds s) → sidxByte p s ≡ some i → i < partOf p + levelBytes
@@ -46,7 +39,7 @@ unfolding sidxBounds sidxByte
 sidx-place p (sidx.Field k d more acc) i h e = let z : _≡_ {A = ℕ} 0 1 = cc in absurd (omega arith)
 sidx-place p (sidx.Entry k d s more acc) i h e =
     let same : bytePlace p k s more ≡ i = cc in
-    let word : wordPlace k ≤ 8 = word-place k in
+    let word : wordPlace k ≤ 8 = word-most k in
     let next : s .next < s .count = h .1 .1 .1 .0 in
     let most : s .count ≤ 1024 = h .1 .1 .1 .1 .0 in
     omega arith

@@ -1,8 +1,7 @@
 -- The numbers of a state in its ranges fit: at most eight bytes, and four, inside the work area, where they are stored.
-use Prim.Native.Nat.{ℕ, _+_, _-_, _^_, _≤_}
+use Prim.Native.Nat.{ℕ, _+_, _≤_}
 use mathlib.Core.Bool.{Bool, true, false}
 use native.Mathlib.Omega.{arith}
-use native.Mathlib.Nat.{pow-le-pow-right}
 use Rattle.segment.specs.Constants.{levelBytes, workBytes}
 use Rattle.machine.specs.declared.Head.{Head}
 use Rattle.machine.specs.declared.Head.the-variants as at
@@ -43,14 +42,14 @@ use Rattle.state.specs.Levels.{depth}
 use Rattle.state.specs.Sidx.{Place, topmost, under, partOf, wideMore, wordPlace}
 use Rattle.state.specs.Ranges.{Within, spelled, headBounds, trafMost, trafBodyBounds, trafBounds, moofBodyBounds, moofBounds, leafBodyBounds, leafBounds, indexMost, sidxBounds, openingBodyBounds, openingBounds, gapBounds, topBounds, levelsBounds, slotBounds, innerBounds, stageBounds}
 use Rattle.state.specs.Numbers.{headNumber, sidxNumber, trafBodyNumber, trafNumber, moofBodyNumber, moofNumber, leafBodyNumber, leafNumber, openingBodyNumber, openingNumber, gapNumber, innerNumber, stageNumber, Short, Fits}
-use Rattle.state.proofs.RangeTests.{spelled-first, four-within}
+use Rattle.state.proofs.RangeTests.{spelled-first, spelled-within, four-within}
 
+-- a number of fewer bytes has at most eight
 widen : (most more acc : ℕ) → most ≤ 7 → Within (spelled most more acc) → Within (spelled 7 more acc)
 widen most more acc h w =
-    let j : most - more ≤ 7 - more = omega arith in
-    let k : 256 ^ (most - more) ≤ 256 ^ (7 - more) = pow-le-pow-right (omega arith) j in
-    (omega (arith, w .0, h), (omega (arith, w .1 .0), tt))
+    spelled-within most more 7 more acc (omega (arith, w .0, h)) (omega arith) w
 
+-- the numbers of an index and of a `traf` have at most eight bytes
 pub index-most : (i : IndexPart) (wide : Bool) → indexMost i wide ≤ 7
 unfolding indexMost wideMore
 index-most part.Version wide = omega arith
@@ -72,6 +71,7 @@ traf-most (trafPart.Version pos end) = omega arith
 traf-most (trafPart.TimeFlags pos wide) = omega arith
 traf-most (trafPart.Time pos) = omega arith
 
+-- an entry's numbers stand within its 12 bytes
 pub word-most : (e : EntryPart) → wordPlace e ≤ 8
 unfolding wordPlace
 word-most entry.Size = omega arith

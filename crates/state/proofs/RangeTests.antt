@@ -5,7 +5,7 @@ use mathlib.Core.List.{List, [], _∷_, _++_}
 use mathlib.Core.Bool.{true}
 use mathlib.Core.Logic.{_↔_}
 use native.Mathlib.Omega.{arith}
-use native.Mathlib.Nat.{pow-suc}
+use native.Mathlib.Nat.{pow-suc, pow-le-pow-right}
 use lib.Dec.{leb}
 use borrow.Author.Tests.{leb-true, le-leb}
 use Rattle.basics.proofs.Tests.{and-both}
@@ -63,6 +63,12 @@ four-within ws bs cs ds h =
 power-least : (k : ℕ) → 0 < 256 ^ k
 power-least zero = omega arith
 power-least (suc k) = let h : 0 < 256 ^ k = power-least k in rw pow-suc (omega arith)
+
+-- what is spelled by bytes of a number is spelled by as many of a longer one, or of one of which fewer follow
+pub spelled-within : (most more most' more' acc : ℕ) → more' ≤ most' → most - more ≤ most' - more' → Within (spelled most more acc) → Within (spelled most' more' acc)
+spelled-within most more most' more' acc h j w =
+    let k : 256 ^ (most - more) ≤ 256 ^ (most' - more') = pow-le-pow-right (omega arith) j in
+    (h, (omega (arith, w .1 .0), tt))
 
 -- a number of which nothing was read yet
 pub spelled-first : (most more : ℕ) → more ≤ most → Within (spelled most more 0)

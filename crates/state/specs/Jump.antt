@@ -70,6 +70,7 @@ skips (stage.Entry top ls) = 0
 skips (stage.Leaf top ls slot s) = leafSkips s
 skips (stage.Inner top ls slot s) = 0
 
+-- the lesser of two numbers
 unfoldable pub least : ℕ → ℕ → ℕ
 least a b = pick (ltb a b) a b
 

@@ -1,8 +1,9 @@
 -- Numbers that are being read: their bytes, but for the last, spell on and do nothing else; those of an entry are stored as read.
-use Prim.Native.Nat.{ℕ, _-_, _*_, _+_, _≤_, _<_}
-use mathlib.Core.List.{List, [], _∷_}
+use Prim.Native.Nat.{ℕ, _-_, _+_, _≤_, _<_}
+use mathlib.Core.List.{List}
 use mathlib.Core.Option.{Option, some, none}
-use Rattle.segment.specs.Constants.{entryBytes, workBytes}
+use Rattle.basics.specs.Bytes.{numberFrom}
+use Rattle.segment.specs.Constants.{workBytes}
 use Rattle.machine.specs.declared.Head.{Head}
 use Rattle.machine.specs.declared.Head.the-variants as at
 use Rattle.state.specs.declared.Top.{Top}
@@ -32,10 +33,10 @@ use Rattle.state.specs.declared.InnerBox.{InnerBox}
 use Rattle.state.specs.declared.InnerBox.the-variants as inners
 use Rattle.state.specs.declared.Stage.{Stage}
 use Rattle.state.specs.declared.Stage.the-variants as stage
-use Rattle.state.specs.Flow.{Flow, stored, putAll}
+use Rattle.state.specs.Flow.{putAll}
 use Rattle.state.specs.Levels.{depth}
 use Rattle.state.specs.Ranges.{Within, spelled}
-use Rattle.state.specs.Sidx.{Place, topmost, under, partOf, wordPlace}
+use Rattle.state.specs.Sidx.{Place, topmost, under, numberPlace}
 
 -- The number at hand: so many bytes follow the next one, those before it spell `acc`; the same with another pair of these; and where
 -- its first byte is stored, if they are.
@@ -50,28 +51,29 @@ abbrev pub absent : {S : Type 0} → S → Number S
 absent s = record { more = 0; acc = 0; again = λ m a. s; place = none }
 
 -- a number whose bytes are not stored
-abbrev pub spelt : {S : Type 0} → ℕ → ℕ → (ℕ → ℕ → S) → Number S
-spelt more acc again = record { more = more; acc = acc; again = again; place = none }
+abbrev pub unstored : {S : Type 0} → ℕ → ℕ → (ℕ → ℕ → S) → Number S
+unstored more acc again = record { more = more; acc = acc; again = again; place = none }
 
 -- a number inside of something else
 abbrev pub inside : {S T : Type 0} → (S → T) → Number S → Number T
 inside wrap x = record { more = x .more; acc = x .acc; again = λ m a. wrap (x .again m a); place = x .place }
 
+-- The number at hand, at each level.
 unfoldable pub headNumber : Head → Number Head
 headNumber at.First = absent at.First
-headNumber (at.Size pos more acc) = spelt more acc (at.Size pos)
-headNumber (at.Kind pos size more acc) = spelt more acc (at.Kind pos size)
-headNumber (at.Large pos kind more acc) = spelt more acc (at.Large pos kind)
+headNumber (at.Size pos more acc) = unstored more acc (at.Size pos)
+headNumber (at.Kind pos size more acc) = unstored more acc (at.Kind pos size)
+headNumber (at.Large pos kind more acc) = unstored more acc (at.Large pos kind)
 
 unfoldable pub sidxNumber : Place → Sidx → Number Sidx
-sidxNumber p (sidx.Field i d more acc) = spelt more acc (sidx.Field i d)
+sidxNumber p (sidx.Field i d more acc) = unstored more acc (sidx.Field i d)
 sidxNumber p (sidx.Entry e d s more acc) =
-    record { more = more; acc = acc; again = sidx.Entry e d s; place = some (partOf p + entryBytes * s .next + wordPlace e) }
+    record { more = more; acc = acc; again = sidx.Entry e d s; place = some (numberPlace p e s) }
 
 unfoldable pub trafBodyNumber : TrafBody → Number TrafBody
 trafBodyNumber (trafs.Skip stop) = absent (trafs.Skip stop)
 trafBodyNumber (trafs.Rest stop r) = absent (trafs.Rest stop r)
-trafBodyNumber (trafs.Field p more acc) = spelt more acc (trafs.Field p)
+trafBodyNumber (trafs.Field p more acc) = unstored more acc (trafs.Field p)
 
 unfoldable pub trafNumber : TrafBoxes → Number TrafBoxes
 trafNumber (trafBox.Head so h) = inside (trafBox.Head so) (headNumber h)
@@ -95,7 +97,7 @@ leafNumber (leafBox.Body so s) = inside (leafBox.Body so) (leafBodyNumber s)
 
 unfoldable pub openingBodyNumber : OpeningBody → Number OpeningBody
 openingBodyNumber (openings.Skip stop) = absent (openings.Skip stop)
-openingBodyNumber (openings.Styp span p listed more acc) = spelt more acc (openings.Styp span p listed)
+openingBodyNumber (openings.Styp span p listed more acc) = unstored more acc (openings.Styp span p listed)
 openingBodyNumber (openings.Index span s) = inside (openings.Index span) (sidxNumber topmost s)
 
 unfoldable pub openingNumber : OpeningBoxes → Number OpeningBoxes
@@ -117,25 +119,24 @@ stageNumber (stage.Entry top ls) = absent (stage.Entry top ls)
 stageNumber (stage.Leaf top ls slot s) = inside (stage.Leaf top ls slot) (leafNumber s)
 stageNumber (stage.Inner top ls slot s) = inside (stage.Inner top ls slot) (innerNumber top ls slot s)
 
--- what a byte leaves in what flows, told how many follow it: an entry's numbers have four bytes
-unfoldable pub keepIn : Option ℕ → Flow → ℕ → ℕ → Flow
-keepIn none f m b = f
-keepIn (some i) f m b = stored f (i + (3 - m)) b
+-- the stage after `k` bytes of its number
+abbrev pub stageOn : Stage → ℕ → List ℕ → Stage
+stageOn s k bytes = stageNumber s .again (stageNumber s .more - k) (numberFrom (stageNumber s .acc) bytes)
 
--- what some bytes leave, told how many follow the first of them
-unfoldable pub keepAll : Option ℕ → ℕ → Flow → List ℕ → Flow
-keepAll place more f [] = f
-keepAll place more f (b ∷ bs) = keepAll place (more - 1) (keepIn place f more b) bs
-
--- the work area after them
+-- the work area after bytes of a number, told how many follow the first of them: an entry's numbers have four bytes
 unfoldable pub putIn : Option ℕ → ℕ → List ℕ → List ℕ → List ℕ
 putIn none more work bs = work
 putIn (some i) more work bs = putAll work (i + (3 - more)) bs
 
--- a number has at most eight bytes, and four, inside the work area, where they are stored
+-- the work area after bytes of a stage's number
+abbrev pub workOn : Stage → List ℕ → List ℕ → List ℕ
+workOn s work bytes = putIn (stageNumber s .place) (stageNumber s .more) work bytes
+
+-- bytes that are stored are four at the most, inside the work area
 unfoldable pub Short : Option ℕ → ℕ → Type 0
 Short none more = Unit {0}
 Short (some i) more = (more ≤ 3) × (i + 3 < workBytes)
 
+-- a number has at most eight bytes
 abbrev pub Fits : {S : Type 0} → Number S → Type 0
 Fits x = Within (spelled 7 (x .more) (x .acc)) × Short (x .place) (x .more)

@@ -142,8 +142,11 @@ wordPlace entry.Size = 0
 wordPlace entry.Duration = 4
 wordPlace entry.Sap = 8
 
+abbrev pub numberPlace : Place → EntryPart → Sums → ℕ
+numberPlace p e s = partOf p + entryBytes * s .next + wordPlace e
+
 abbrev pub bytePlace : Place → EntryPart → Sums → ℕ → ℕ
-bytePlace p e s more = partOf p + entryBytes * s .next + wordPlace e + (3 - more)
+bytePlace p e s more = numberPlace p e s + (3 - more)
 
 -- "Each entry byte is stored as read, at its place in its level's part."
 abbrev pub keepByte : Place → EntryPart → Sums → Flow → ℕ → ℕ → Flow

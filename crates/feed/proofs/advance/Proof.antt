@@ -1,6 +1,5 @@
-use Prim.Native.Nat.{_-_}
 use native.Mathlib.Omega.{arith}
-use Rattle.feed.proofs.Laws.{spelled-there, number-taken, passed-most, passed-fits, passed-taken}
+use Rattle.feed.proofs.Laws.{spelled-there, number-and-byte, passed-most, passed-fits, passed-taken}
 use borrow.Author.Needs.{needs}
 use Rattle.feed.proofs.advance.Statement.{statement}
 use Rattle.feed.proofs.advance.Tie as tie
@@ -30,7 +29,7 @@ same-length-2 : tie.Need-same-length-2
 same-length-2 c = search needs
 
 returns : tie.Need-returns
-returns c = number-taken (c .before .before .before .before .before .before .before .before .before .before .before .before .before .before .before .before .before .args .piece .now) (c .before .before .before .before .before .before .before .before .before .before .before .before .before .before .before .before .before .args .s) (c .before .before .before .before .before .before .before .before .before .before .before .before .before .before .before .before .before .args .i) (c .before .before .before .before .before .before .before .before .before .before .before .before .before .before .before .before .before .args .work .now) _ _ _ (c .before .before .before .before .before .before .before .before .before .before .before .before .before .before .before .before .before .pre .2) (c .before .before .before .before .before .before .before .before .before .before .spell-on .ensures .0) (c .before .before .before .before .before .before .before .before .before .before .before .before .before .before .before .before .before .args .table .now) _ _ _ (c .before .before .before .before .before .before .before .before .before .before .before .before .before .before .before .before .before .pre .1) (c .before .before .before .before .state-byte .ensures .1) (c .before .before .before .before .state-byte .ensures .0)
+returns c = number-and-byte (c .before .before .before .before .before .before .before .before .before .before .before .before .before .before .before .before .before .args .piece .now) (c .before .before .before .before .before .before .before .before .before .before .before .before .before .before .before .before .before .args .s) (c .before .before .before .before .before .before .before .before .before .before .before .before .before .before .before .before .before .args .i) (c .before .before .before .before .before .before .before .before .before .before .before .before .before .before .before .before .before .args .work .now) _ _ _ (c .before .before .before .before .before .before .before .before .before .before .before .before .before .before .before .before .before .pre .2) (c .before .before .before .before .before .before .before .before .before .before .spell-on .ensures .0) (c .before .before .before .before .before .before .before .before .before .before .before .before .before .before .before .before .before .args .table .now) _ _ _ (c .before .before .before .before .before .before .before .before .before .before .before .before .before .before .before .before .before .pre .1) (c .before .before .before .before .state-byte .ensures .1) (c .before .before .before .before .state-byte .ensures .0)
 
 pass-requires : tie.Need-pass-requires
 pass-requires c κs = passed-fits (c .before .before .before .before .before .args .piece .now) (c .before .before .before .before .before .args .s) (c .before .before .before .before .before .args .i) _ (c .before .before .before .before .before .pre .1) (c .before .passing-now .ensures)

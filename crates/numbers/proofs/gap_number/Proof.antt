@@ -2,7 +2,7 @@ use mathlib.Core.Path.{ap, sym, _∙_}
 use borrow.Author.Needs.{needs}
 use Rattle.state.specs.Numbers.{gapNumber}
 use Rattle.state.specs.declared.GapBoxes.{GapBoxes}
-use Rattle.numbers.specs.Told.{told, isStored, atOf}
+use Rattle.numbers.specs.Views.{told, isStored, nextPlace}
 use Rattle.numbers.proofs.gap_number.Statement.{statement}
 use Rattle.numbers.proofs.gap_number.Tie as tie
 
@@ -19,11 +19,11 @@ unstored-requires : tie.Need-unstored-requires
 unstored-requires c κs = search needs
 
 returns : tie.Need-returns
-unfolding gapNumber isStored atOf
+unfolding gapNumber isStored nextPlace
 returns c = c .head-number .ensures ∙ sym (ap (λ (q : GapBoxes). told (gapNumber q)) (c .before .before .s .given .1))
 
 returns-2 : tie.Need-returns-2
-unfolding gapNumber isStored atOf
+unfolding gapNumber isStored nextPlace
 returns-2 c = c .unstored .ensures ∙ sym (ap (λ (q : GapBoxes). told (gapNumber q)) (c .before .enum-told .given .1))
 
 pub gap-number-spec : {M : Type 1} → statement M

@@ -2,7 +2,7 @@ use mathlib.Core.Path.{ap, sym, _∙_}
 use borrow.Author.Needs.{needs}
 use Rattle.state.specs.Numbers.{headNumber}
 use Rattle.machine.specs.declared.Head.{Head}
-use Rattle.numbers.specs.Told.{told, isStored, atOf}
+use Rattle.numbers.specs.Views.{told, isStored, nextPlace}
 use Rattle.numbers.proofs.head_number.Statement.{statement}
 use Rattle.numbers.proofs.head_number.Tie as tie
 
@@ -31,19 +31,19 @@ unstored-requires-4 : tie.Need-unstored-requires-4
 unstored-requires-4 c κs = search needs
 
 returns : tie.Need-returns
-unfolding headNumber isStored atOf
+unfolding headNumber isStored nextPlace
 returns c = c .unstored .ensures ∙ sym (ap (λ (q : Head). told (headNumber q)) (c .before .enum-told .given .1))
 
 returns-2 : tie.Need-returns-2
-unfolding headNumber isStored atOf
+unfolding headNumber isStored nextPlace
 returns-2 c = c .unstored2 .ensures ∙ sym (ap (λ (q : Head). told (headNumber q)) (c .before .before .h .given .1))
 
 returns-3 : tie.Need-returns-3
-unfolding headNumber isStored atOf
+unfolding headNumber isStored nextPlace
 returns-3 c = c .unstored3 .ensures ∙ sym (ap (λ (q : Head). told (headNumber q)) (c .before .before .h2 .given .1))
 
 returns-4 : tie.Need-returns-4
-unfolding headNumber isStored atOf
+unfolding headNumber isStored nextPlace
 returns-4 c = c .unstored4 .ensures ∙ sym (ap (λ (q : Head). told (headNumber q)) (c .before .before .h3 .given .1))
 
 pub head-number-spec : {M : Type 1} → statement M

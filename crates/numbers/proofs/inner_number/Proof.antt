@@ -4,7 +4,7 @@ use Rattle.state.specs.Numbers.{sidxNumber, innerNumber}
 use Rattle.state.specs.declared.InnerBox.{InnerBox}
 use Rattle.state.specs.Sidx.{under}
 use Prim.Native.Nat.{ℕ}
-use Rattle.numbers.specs.Told.{told, isStored, atOf}
+use Rattle.numbers.specs.Views.{told, isStored, nextPlace}
 use native.Mathlib.Omega.{arith}
 use Rattle.state.specs.Ranges.{Within, innerBounds}
 use Rattle.numbers.proofs.inner_number.Statement.{statement}
@@ -27,11 +27,11 @@ unfolding innerBounds
 sidx-number-requires c κs = let w = subst (λ (q : InnerBox). Within (innerBounds (c .before .before .before .before .args .ls) q)) (c .before .before .s2 .given .1) (c .before .before .before .before .pre) in (omega (arith, w .0, c .depth .ensures), w .1)
 
 returns : tie.Need-returns
-unfolding innerNumber isStored atOf
+unfolding innerNumber isStored nextPlace
 returns c = c .head-number .ensures ∙ sym (ap (λ (q : InnerBox). told (innerNumber (c .before .before .before .before .args .top) (c .before .before .before .before .args .ls) (c .before .before .before .before .args .slot) q)) (c .before .before .s .given .1))
 
 returns-2 : tie.Need-returns-2
-unfolding innerNumber isStored atOf
+unfolding innerNumber isStored nextPlace
 returns-2 c = (c .sidx-number .ensures ∙ ap (λ (m : ℕ). told (sidxNumber (under (c .before .before .before .before .before .args .top) (c .before .before .before .before .before .args .slot) m) (c .before .before .before .s2 .given .0 .1 .0))) (c .before .depth .ensures)) ∙ sym (ap (λ (q : InnerBox). told (innerNumber (c .before .before .before .before .before .args .top) (c .before .before .before .before .before .args .ls) (c .before .before .before .before .before .args .slot) q)) (c .before .before .before .s2 .given .1))
 
 pub inner-number-spec : {M : Type 1} → statement M

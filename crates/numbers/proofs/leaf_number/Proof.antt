@@ -3,7 +3,7 @@ use borrow.Author.Needs.{needs}
 use Rattle.state.specs.Numbers.{leafBodyNumber, leafNumber}
 use Rattle.state.specs.declared.LeafBoxes.{LeafBoxes}
 use Rattle.state.specs.declared.LeafBoxes.the-variants as leafBox
-use Rattle.numbers.specs.Told.{told, isStored, atOf}
+use Rattle.numbers.specs.Views.{told, isStored, nextPlace}
 use Rattle.numbers.proofs.leaf_number.Statement.{statement}
 use Rattle.numbers.proofs.leaf_number.Tie as tie
 
@@ -29,15 +29,15 @@ moof-number-requires : tie.Need-moof-number-requires
 moof-number-requires c κs = search needs
 
 returns : tie.Need-returns
-unfolding leafNumber isStored atOf
+unfolding leafNumber isStored nextPlace
 returns c = c .head-number .ensures ∙ sym (ap (λ (q : LeafBoxes). told (leafNumber q)) (c .before .before .s .given .1))
 
 returns-2 : tie.Need-returns-2
-unfolding leafNumber leafBodyNumber isStored atOf
+unfolding leafNumber leafBodyNumber isStored nextPlace
 returns-2 c = c .unstored .ensures ∙ sym (ap (λ (q : LeafBoxes). told (leafNumber q)) (c .before .before .before .before .s2 .given .1 ∙ ap (leafBox.Body (c .before .before .before .before .s2 .given .0 .0)) (c .before .enum-told .given .1)))
 
 returns-3 : tie.Need-returns-3
-unfolding leafNumber leafBodyNumber isStored atOf
+unfolding leafNumber leafBodyNumber isStored nextPlace
 returns-3 c = c .moof-number .ensures ∙ sym (ap (λ (q : LeafBoxes). told (leafNumber q)) (c .before .before .before .before .before .s2 .given .1 ∙ ap (leafBox.Body (c .before .before .before .before .before .s2 .given .0 .0)) (c .before .before .body .given .1)))
 
 pub leaf-number-spec : {M : Type 1} → statement M

@@ -3,7 +3,7 @@ use borrow.Author.Needs.{needs}
 use Rattle.state.specs.Numbers.{moofBodyNumber, moofNumber}
 use Rattle.state.specs.declared.MoofBoxes.{MoofBoxes}
 use Rattle.state.specs.declared.MoofBoxes.the-variants as moofBox
-use Rattle.numbers.specs.Told.{told, isStored, atOf}
+use Rattle.numbers.specs.Views.{told, isStored, nextPlace}
 use Rattle.numbers.proofs.moof_number.Statement.{statement}
 use Rattle.numbers.proofs.moof_number.Tie as tie
 
@@ -29,15 +29,15 @@ traf-number-requires : tie.Need-traf-number-requires
 traf-number-requires c κs = search needs
 
 returns : tie.Need-returns
-unfolding moofNumber isStored atOf
+unfolding moofNumber isStored nextPlace
 returns c = c .head-number .ensures ∙ sym (ap (λ (q : MoofBoxes). told (moofNumber q)) (c .before .before .s .given .1))
 
 returns-2 : tie.Need-returns-2
-unfolding moofNumber moofBodyNumber isStored atOf
+unfolding moofNumber moofBodyNumber isStored nextPlace
 returns-2 c = c .unstored .ensures ∙ sym (ap (λ (q : MoofBoxes). told (moofNumber q)) (c .before .before .before .before .s2 .given .1 ∙ ap (moofBox.Body (c .before .before .before .before .s2 .given .0 .0)) (c .before .enum-told .given .1)))
 
 returns-3 : tie.Need-returns-3
-unfolding moofNumber moofBodyNumber isStored atOf
+unfolding moofNumber moofBodyNumber isStored nextPlace
 returns-3 c = c .traf-number .ensures ∙ sym (ap (λ (q : MoofBoxes). told (moofNumber q)) (c .before .before .before .before .before .s2 .given .1 ∙ ap (moofBox.Body (c .before .before .before .before .before .s2 .given .0 .0)) (c .before .before .body .given .1)))
 
 pub moof-number-spec : {M : Type 1} → statement M

@@ -3,7 +3,7 @@ use borrow.Author.Needs.{needs}
 use Rattle.state.specs.Numbers.{openingBodyNumber, openingNumber}
 use Rattle.state.specs.declared.OpeningBoxes.{OpeningBoxes}
 use Rattle.state.specs.declared.OpeningBoxes.the-variants as openingBox
-use Rattle.numbers.specs.Told.{told, isStored, atOf}
+use Rattle.numbers.specs.Views.{told, isStored, nextPlace}
 use Rattle.state.specs.Ranges.{Within, openingBodyBounds, openingBounds}
 use Rattle.numbers.proofs.opening_number.Statement.{statement}
 use Rattle.numbers.proofs.opening_number.Tie as tie
@@ -37,19 +37,19 @@ unfolding openingBounds openingBodyBounds
 sidx-number-requires c κs = (tt, subst (λ (q : OpeningBoxes). Within (openingBounds q)) (c .before .before .before .before .s2 .given .1 ∙ ap (openingBox.Body (c .before .before .before .before .s2 .given .0 .0)) (c .before .body2 .given .1)) (c .before .before .before .before .before .before .pre))
 
 returns : tie.Need-returns
-unfolding openingNumber isStored atOf
+unfolding openingNumber isStored nextPlace
 returns c = c .head-number .ensures ∙ sym (ap (λ (q : OpeningBoxes). told (openingNumber q)) (c .before .before .s .given .1))
 
 returns-2 : tie.Need-returns-2
-unfolding openingNumber openingBodyNumber isStored atOf
+unfolding openingNumber openingBodyNumber isStored nextPlace
 returns-2 c = c .unstored .ensures ∙ sym (ap (λ (q : OpeningBoxes). told (openingNumber q)) (c .before .before .before .before .s2 .given .1 ∙ ap (openingBox.Body (c .before .before .before .before .s2 .given .0 .0)) (c .before .enum-told .given .1)))
 
 returns-3 : tie.Need-returns-3
-unfolding openingNumber openingBodyNumber isStored atOf
+unfolding openingNumber openingBodyNumber isStored nextPlace
 returns-3 c = c .unstored2 .ensures ∙ sym (ap (λ (q : OpeningBoxes). told (openingNumber q)) (c .before .before .before .before .before .s2 .given .1 ∙ ap (openingBox.Body (c .before .before .before .before .before .s2 .given .0 .0)) (c .before .before .body .given .1)))
 
 returns-4 : tie.Need-returns-4
-unfolding openingNumber openingBodyNumber isStored atOf
+unfolding openingNumber openingBodyNumber isStored nextPlace
 returns-4 c = c .sidx-number .ensures ∙ sym (ap (λ (q : OpeningBoxes). told (openingNumber q)) (c .before .before .before .before .before .s2 .given .1 ∙ ap (openingBox.Body (c .before .before .before .before .before .s2 .given .0 .0)) (c .before .before .body2 .given .1)))
 
 pub opening-number-spec : {M : Type 1} → statement M

@@ -5,7 +5,7 @@ use Rattle.state.specs.declared.Sidx.{Sidx}
 use Prim.Native.Nat.{ℕ}
 use mathlib.Core.Bool.{true}
 use Rattle.index.specs.Views.{placeOf}
-use Rattle.numbers.specs.Told.{told, isStored, atOf}
+use Rattle.numbers.specs.Views.{told, isStored, nextPlace}
 use Rattle.index.proofs.Numbers.{entry-summed, entry-more}
 use Rattle.numbers.proofs.sidx_number.Statement.{statement}
 use Rattle.numbers.proofs.sidx_number.Tie as tie
@@ -23,12 +23,12 @@ byte-place-requires : tie.Need-byte-place-requires
 byte-place-requires c κs = (c .before .before .before .pre .0, entry-summed (c .before .s2 .given .1) (c .before .before .before .pre .1), entry-more (c .before .s2 .given .1) (c .before .before .before .pre .1))
 
 returns : tie.Need-returns
-unfolding sidxNumber isStored atOf
+unfolding sidxNumber isStored nextPlace
 returns c = c .unstored .ensures ∙ sym (ap (λ (q : Sidx). told (sidxNumber (placeOf (c .before .before .before .before .args .p)) q)) (c .before .before .s .given .1))
 
 returns-2 : tie.Need-returns-2
-unfolding sidxNumber isStored atOf
-returns-2 c = ap (λ (a : ℕ). record { more = c .before .before .s2 .given .0 .1 .1 .1 .0; acc = c .before .before .s2 .given .0 .1 .1 .1 .1 .0; stored = true; at = a }) (c .byte-place .ensures) ∙ sym (ap (λ (q : Sidx). told (sidxNumber (placeOf (c .before .before .before .before .args .p)) q)) (c .before .before .s2 .given .1))
+unfolding sidxNumber isStored nextPlace
+returns-2 c = ap (λ (a : ℕ). record { more = c .before .before .s2 .given .0 .1 .1 .1 .0; acc = c .before .before .s2 .given .0 .1 .1 .1 .1 .0; stored = true; place = a }) (c .byte-place .ensures) ∙ sym (ap (λ (q : Sidx). told (sidxNumber (placeOf (c .before .before .before .before .args .p)) q)) (c .before .before .s2 .given .1))
 
 pub sidx-number-spec : {M : Type 1} → statement M
 sidx-number-spec =

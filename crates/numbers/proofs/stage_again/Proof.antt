@@ -27,6 +27,9 @@ enum-known-s-3 c = search needs
 leaf-again-requires : tie.Need-leaf-again-requires
 leaf-again-requires c κs = search needs
 
+in-leaf-requires : tie.Need-in-leaf-requires
+in-leaf-requires c κs = search needs
+
 enum-known-s-4 : tie.Need-enum-known-s-4
 enum-known-s-4 c = search needs
 
@@ -47,7 +50,9 @@ returns-3 c = (c .enum-told .given .1) ∙ sym (ap (λ (q : Stage). stageNumber 
 
 returns-4 : tie.Need-returns-4
 unfolding stageNumber
-returns-4 c = ap (stage.Leaf (c .before .before .s3 .given .0 .0) (c .before .before .s3 .given .0 .1 .0) (c .before .before .s3 .given .0 .1 .1 .0)) (c .leaf-again .ensures) ∙ sym (ap (λ (q : Stage). stageNumber q .again (c .before .before .before .before .args .more) (c .before .before .before .before .args .acc)) (c .before .before .s3 .given .1))
+returns-4 c = (c .in-leaf .ensures
+    ∙ ap (stage.Leaf (c .before .before .before .s3 .given .0 .0) (c .before .before .before .s3 .given .0 .1 .0) (c .before .before .before .s3 .given .0 .1 .1 .0)) (c .before .leaf-again .ensures))
+    ∙ sym (ap (λ (q : Stage). stageNumber q .again (c .before .before .before .before .before .args .more) (c .before .before .before .before .before .args .acc)) (c .before .before .before .s3 .given .1))
 
 returns-5 : tie.Need-returns-5
 unfolding stageNumber
@@ -64,6 +69,7 @@ stage-again-spec =
     enum-told
     enum-known-s-3
     leaf-again-requires
+    in-leaf-requires
     enum-known-s-4
     inner-again-requires
     returns

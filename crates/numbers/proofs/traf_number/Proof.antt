@@ -3,7 +3,7 @@ use borrow.Author.Needs.{needs}
 use Rattle.state.specs.Numbers.{trafBodyNumber, trafNumber}
 use Rattle.state.specs.declared.TrafBoxes.{TrafBoxes}
 use Rattle.state.specs.declared.TrafBoxes.the-variants as trafBox
-use Rattle.numbers.specs.Told.{told, isStored, atOf}
+use Rattle.numbers.specs.Views.{told, isStored, nextPlace}
 use Rattle.numbers.proofs.traf_number.Statement.{statement}
 use Rattle.numbers.proofs.traf_number.Tie as tie
 
@@ -35,19 +35,19 @@ unstored-requires-3 : tie.Need-unstored-requires-3
 unstored-requires-3 c κs = search needs
 
 returns : tie.Need-returns
-unfolding trafNumber isStored atOf
+unfolding trafNumber isStored nextPlace
 returns c = c .head-number .ensures ∙ sym (ap (λ (q : TrafBoxes). told (trafNumber q)) (c .before .before .s .given .1))
 
 returns-2 : tie.Need-returns-2
-unfolding trafNumber trafBodyNumber isStored atOf
+unfolding trafNumber trafBodyNumber isStored nextPlace
 returns-2 c = c .unstored .ensures ∙ sym (ap (λ (q : TrafBoxes). told (trafNumber q)) (c .before .before .before .before .s2 .given .1 ∙ ap (trafBox.Body (c .before .before .before .before .s2 .given .0 .0)) (c .before .enum-told .given .1)))
 
 returns-3 : tie.Need-returns-3
-unfolding trafNumber trafBodyNumber isStored atOf
+unfolding trafNumber trafBodyNumber isStored nextPlace
 returns-3 c = c .unstored2 .ensures ∙ sym (ap (λ (q : TrafBoxes). told (trafNumber q)) (c .before .before .before .before .s2 .given .1 ∙ ap (trafBox.Body (c .before .before .before .before .s2 .given .0 .0)) (c .before .enum-told2 .given .1)))
 
 returns-4 : tie.Need-returns-4
-unfolding trafNumber trafBodyNumber isStored atOf
+unfolding trafNumber trafBodyNumber isStored nextPlace
 returns-4 c = c .unstored3 .ensures ∙ sym (ap (λ (q : TrafBoxes). told (trafNumber q)) (c .before .before .before .before .before .s2 .given .1 ∙ ap (trafBox.Body (c .before .before .before .before .before .s2 .given .0 .0)) (c .before .before .body .given .1)))
 
 pub traf-number-spec : {M : Type 1} → statement M
