@@ -1,4 +1,5 @@
-// A segment read whole, printed, and read again in pieces: byte by byte, and in two pieces cut at every place where it is short.
+// A segment read whole, printed, and read again in pieces: byte by byte, in pieces of three and of five bytes, so that a number begins
+// in one and goes on and ends in others, and in two pieces cut at every place where it is short.
 // Every reading starts with buffers that hold the same.
 use data::buffers::FILL_BYTE;
 use data::buffers::FILL_NUMBER;
@@ -23,7 +24,7 @@ use trial::prints::print_listing;
 use trial::prints::print_number;
 
 // The longest segment that is cut at every place.
-const SHORT: usize = 250;
+const SHORT: usize = 512;
 
 // How many segments were read, and in how many ways again.
 pub struct Tally {
@@ -97,14 +98,14 @@ fn reads_alike(segment: &[u8], cut: Cutting, end: End, work: &mut [u8], table: &
     both(read.answered, same_end(own, end))
 }
 
-// Byte by byte; the whole work area and the whole leaf table are compared.
-fn bytes_alike(segment: &[u8], end: End, work: &[u8], table: &[u64]) -> bool {
+// In pieces of one length; the whole work area and the whole leaf table are compared.
+fn pieces_alike(segment: &[u8], length: usize, end: End, work: &[u8], table: &[u64]) -> bool {
     let mut own_work = [FILL_BYTE; 49152];
     let mut own_table = [FILL_NUMBER; 1536];
     let cut = Cutting {
         pieces: segment.len(),
-        first: 1,
-        other: 1,
+        first: least(length, segment.len()),
+        other: length,
     };
     let ends = reads_alike(segment, cut, end, &mut own_work, &mut own_table);
     let works = same_bytes(&own_work, work);
@@ -179,13 +180,21 @@ fn check_cuts(segment: &[u8], end: End, work: &[u8], table: &[u64]) -> u64 {
     (n + 1) as u64
 }
 
-// What is said where a reading in pieces is not as the reading of the whole; the tally with these readings.
-fn check_alike(segment: &[u8], end: End, work: &[u8], table: &[u64], tally: Tally) -> Tally {
-    if !bytes_alike(segment, end, work, table) {
-        print(b" differs byte by byte");
+// What is said where a reading in pieces of one length is not as the reading of the whole.
+fn check_pieces(segment: &[u8], length: usize, end: End, work: &[u8], table: &[u64]) {
+    if !pieces_alike(segment, length, end, work, table) {
+        print(b" differs in pieces of ");
+        print_number(length as u64);
     }
+}
+
+// A segment read again in pieces; the tally with these readings.
+fn check_alike(segment: &[u8], end: End, work: &[u8], table: &[u64], tally: Tally) -> Tally {
+    check_pieces(segment, 1, end, work, table);
+    check_pieces(segment, 3, end, work, table);
+    check_pieces(segment, 5, end, work, table);
     let cuts = check_cuts(segment, end, work, table);
-    let more = std::num::wrapping_add_u64(cuts, 1);
+    let more = std::num::wrapping_add_u64(cuts, 3);
     Tally {
         segments: std::num::wrapping_add_u64(tally.segments, 1),
         cuttings: std::num::wrapping_add_u64(tally.cuttings, more),

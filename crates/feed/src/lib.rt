@@ -67,6 +67,7 @@ fn feed_bytes(s: State, piece: &[u8], work: &mut [u8], table: &mut [u64]) -> Sta
     r
 }
 
+// What feed answers of the state that it leaves.
 fn answer_for(s: State) -> FeedAnswer
     ensures { λ r. ⌜ r ≡ answered s ⌝ }
 {

@@ -5,12 +5,12 @@ use Rattle.state.specs.Jump.{passing}
 use Rattle.state.specs.declared.State.{State}
 use Rattle.state.specs.declared.State.the-variants as state
 
--- of so many bytes at hand, how many pass at once; and the state after them
+-- of so many bytes at hand, how many pass at once; and the state after them. A refusal is kept, and an accepted list too: all pass.
 unfoldable pub passes : State → ℕ → ℕ
 passes (state.Reading n leaves now last s) rest = passing s n rest
 passes (state.Ended n leaves top) rest = 0
-passes (state.Refused n leaves x) rest = 0
-passes (state.Accepted n leaves top) rest = 0
+passes (state.Refused n leaves x) rest = rest
+passes (state.Accepted n leaves top) rest = rest
 
 unfoldable pub passedOn : State → ℕ → State
 passedOn (state.Reading n leaves now last s) k = state.Reading (n + k) leaves now last s

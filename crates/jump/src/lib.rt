@@ -112,6 +112,7 @@ fn stage_skips(s: Stage) -> u64
     }
 }
 
+// The lesser of two numbers.
 pub fn lesser(a: u64, b: u64) -> u64
     ensures { λ r. ⌜ r ≡ least a b ⌝ }
 {
@@ -153,12 +154,12 @@ pub fn passing_now(s: State, rest: u64) -> u64
             count: _,
             leaves: _,
             refusal: _,
-        } => 0,
+        } => rest,
         State::Accepted {
             count: _,
             leaves: _,
             top: _,
-        } => 0,
+        } => rest,
     }
 }
 

@@ -18,6 +18,7 @@ use state::LEVEL_BYTES;
 use state::Level;
 use state::Levels;
 use state::MOST_RECORDS;
+use state::NUMBERS;
 use state::Slot;
 use state::TYPE_BIT;
 
@@ -296,13 +297,14 @@ pub fn read_back(work: &[u8], ls: Levels, at: u64, n: u64) -> EntryRead
 fn room(len: usize) -> u64
     ensures { λ r. ⌜ ((table : List ℕ) → length table ≡ len → r ≡ flows.room table) ⌝ }
 {
-    let whole = (len / 6) as u64;
+    let whole = (len / NUMBERS) as u64;
     if MOST_RECORDS < whole {
         return MOST_RECORDS;
     }
     whole
 }
 
+// Row 15: whether the table has no room for one leaf more.
 pub fn no_room(leaves: u64, len: usize) -> bool
     ensures { λ r. ⌜ ((table : List ℕ) → length table ≡ len → r ≡ faults.noRoom leaves table) ⌝ }
 {

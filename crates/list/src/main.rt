@@ -10,12 +10,12 @@ use libc::STDOUT_FILENO;
 use listing::Line;
 use listing::heading;
 use listing::leaf_after;
-use state::FeedAnswer;
 use state::FinishAnswer;
 use state::NUMBERS;
 use state::State;
 
-// Each read but the last gives a byte at least, and a feed refuses byte 268,435,457 if none before it: no run reads more often.
+// Each read but the last gives a byte at least, and a feed refuses byte 268,435,457 if none before it: what is not refused is read
+// in no more turns. What follows a refusal is left after as many.
 const TURNS: u64 = 268435458;
 
 const LINE_END: u8 = 10;
@@ -41,7 +41,7 @@ struct Reading {
     failed: bool,
 }
 
-// One read, and a feed of what it gave. The input's end and a refusal, which is kept, end the reading.
+// One read, and a feed of what it gave: after a refusal, which is kept, the rest is read too, and passes at once.
 fn read_part(s: State, part: &mut [u8], work: &mut [u8], table: &mut [u64]) -> Reading {
     let got = libc::read(STDIN_FILENO, part);
     if got <= 0 {
@@ -54,17 +54,9 @@ fn read_part(s: State, part: &mut [u8], work: &mut [u8], table: &mut [u64]) -> R
     let n = io::count(got, part);
     let fed = feed(s, &part[..n], work, table);
     let state = fed.state;
-    let answer = fed.answer;
-    if let FeedAnswer::Read(_) = answer {
-        return Reading {
-            state,
-            open: true,
-            failed: false,
-        };
-    }
     Reading {
         state,
-        open: false,
+        open: true,
         failed: false,
     }
 }

@@ -7,7 +7,7 @@
 // t n: from here on, n numbers of leaf table are lent
 // w at,hex: bytes are put into the work area
 // n at,number: a number is put into the leaf table
-// S, M, R, A, E with numbers: a state (crate `data`, `states`)
+// S, M, R, A, E with numbers: a state (crate `states`)
 use data::buffers::FILL_BYTE;
 use data::buffers::FILL_NUMBER;
 use data::buffers::lent_bytes;

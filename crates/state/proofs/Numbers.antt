@@ -45,7 +45,7 @@ use Rattle.state.specs.declared.Stage.{Stage}
 use Rattle.state.specs.declared.Stage.the-variants as stage
 use Rattle.state.specs.Flow.{Flow, Left, left, withWork, stored, putAll}
 use Rattle.state.specs.Levels.{depth}
-use Rattle.state.specs.Sidx.{Place, topmost, under, stepSidx}
+use Rattle.state.specs.Sidx.{Place, topmost, under, stepSidx, nextByte}
 use Rattle.state.specs.Traf.{stepTrafBody, trafBoxes, wrapTraf, stepTraf}
 use Rattle.state.specs.Leaf.{stepMoofBody, moofBoxes, wrapMoof, stepMoof, stepLeafBody, leafBoxes, wrapLeaf, stepLeaf}
 use Rattle.state.specs.Opening.{stepOpeningBody, opening, wrapOpening, stepOpening}
@@ -57,7 +57,7 @@ use Rattle.state.proofs.Jump.{body-moves, past-none}
 -- what a byte leaves in what flows, told how many follow it; and what some bytes leave, told how many follow the first of them
 unfoldable keepIn : Option ℕ → ℕ → Flow → ℕ → Flow
 keepIn none more f b = f
-keepIn (some i) more f b = stored f (i + (3 - more)) b
+keepIn (some i) more f b = stored f (nextByte i more) b
 
 unfoldable keepAll : Option ℕ → ℕ → Flow → List ℕ → Flow
 keepAll place more f [] = f

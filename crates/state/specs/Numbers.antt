@@ -36,7 +36,7 @@ use Rattle.state.specs.declared.Stage.the-variants as stage
 use Rattle.state.specs.Flow.{putAll}
 use Rattle.state.specs.Levels.{depth}
 use Rattle.state.specs.Ranges.{Within, spelled}
-use Rattle.state.specs.Sidx.{Place, topmost, under, numberPlace}
+use Rattle.state.specs.Sidx.{Place, topmost, under, numberPlace, nextByte}
 
 -- The number at hand: so many bytes follow the next one, those before it spell `acc`; the same with another pair of these; and where
 -- its first byte is stored, if they are.
@@ -123,10 +123,10 @@ stageNumber (stage.Inner top ls slot s) = inside (stage.Inner top ls slot) (inne
 abbrev pub stageOn : Stage → ℕ → List ℕ → Stage
 stageOn s k bytes = stageNumber s .again (stageNumber s .more - k) (numberFrom (stageNumber s .acc) bytes)
 
--- the work area after bytes of a number, told how many follow the first of them: an entry's numbers have four bytes
+-- the work area after bytes of a number, told how many follow the first of them
 unfoldable pub putIn : Option ℕ → ℕ → List ℕ → List ℕ → List ℕ
 putIn none more work bs = work
-putIn (some i) more work bs = putAll work (i + (3 - more)) bs
+putIn (some i) more work bs = putAll work (nextByte i more) bs
 
 -- the work area after bytes of a stage's number
 abbrev pub workOn : Stage → List ℕ → List ℕ → List ℕ

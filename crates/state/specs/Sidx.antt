@@ -145,8 +145,12 @@ wordPlace entry.Sap = 8
 abbrev pub numberPlace : Place → EntryPart → Sums → ℕ
 numberPlace p e s = partOf p + entryBytes * s .next + wordPlace e
 
+-- where a number's next byte is stored, told where its first one is and how many follow: an entry's numbers have four bytes
+abbrev pub nextByte : ℕ → ℕ → ℕ
+nextByte i more = i + (3 - more)
+
 abbrev pub bytePlace : Place → EntryPart → Sums → ℕ → ℕ
-bytePlace p e s more = numberPlace p e s + (3 - more)
+bytePlace p e s more = nextByte (numberPlace p e s) more
 
 -- "Each entry byte is stored as read, at its place in its level's part."
 abbrev pub keepByte : Place → EntryPart → Sums → Flow → ℕ → ℕ → Flow
