@@ -22,8 +22,6 @@ use state::NUMBERS;
 use state::Slot;
 use state::TYPE_BIT;
 
-const RECORD_NUMBERS: u64 = 6;
-
 // An entry as it stands in the work area.
 pub struct Entry {
     pub inner: bool,
@@ -336,7 +334,7 @@ pub fn put_row(table: &mut [u64], leaves: u64, slot: Slot, at: u64, first: u64)
     requires { ⌜ leaves ≤ mostRecords ⌝ }
     ensures { λ _. ⌜ now (table .exit) ≡ flows.putAll (now (table .entry)) (recordNumbers * leaves) (leafRow slot at first) ⌝ }
 {
-    let i = (RECORD_NUMBERS * leaves) as usize;
+    let i = NUMBERS * (leaves as usize);
     put_at(table, i, slot.pos);
     put_at(table, i + 1, less(slot.end, slot.pos));
     put_at(table, i + 2, at);
