@@ -113,7 +113,7 @@ fn stage_skips(s: Stage) -> u64
 }
 
 // The lesser of two numbers.
-pub fn lesser(a: u64, b: u64) -> u64
+pub fn least(a: u64, b: u64) -> u64
     ensures { λ r. ⌜ r ≡ least a b ⌝ }
 {
     if a < b {
@@ -126,11 +126,11 @@ pub fn lesser(a: u64, b: u64) -> u64
 fn passing_bytes(s: Stage, n: u64, rest: u64) -> u64
     ensures { λ r. ⌜ r ≡ passing s n rest ⌝ }
 {
-    let stop = lesser(stage_skips(s), LIMIT);
+    let stop = least(stage_skips(s), LIMIT);
     if stop <= n {
-        return lesser(rest, 0);
+        return least(rest, 0);
     }
-    lesser(rest, stop - n - 1)
+    least(rest, stop - n - 1)
 }
 
 // Of so many bytes at hand, how many pass at once.

@@ -9,7 +9,7 @@ use libc::STDIN_FILENO;
 use libc::STDOUT_FILENO;
 use listing::Line;
 use listing::heading;
-use listing::leaf_after;
+use listing::table_line;
 use state::FinishAnswer;
 use state::NUMBERS;
 use state::State;
@@ -99,7 +99,7 @@ fn print_leaves(leaves: u64, table: &[u64]) -> bool {
     let held = table.len() / NUMBERS;
     let mut i: usize = 0;
     while i < held && (i as u64) < leaves {
-        if !print_line(leaf_after(table, i)) {
+        if !print_line(table_line(table, i)) {
             return false;
         }
         i += 1;

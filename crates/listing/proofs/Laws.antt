@@ -14,7 +14,7 @@ use Rattle.basics.proofs.Picks.{pick-yes, pick-no, pick-holds}
 use Rattle.segment.specs.Constants.{recordNumbers}
 use Rattle.state.specs.declared.FinishAnswer.{FinishAnswer}
 use Rattle.state.specs.declared.FinishAnswer.the-variants.{Listed, Refused}
-use Rattle.listing.specs.Text.{digit, decimalIn, decimal, spaced, headingText, leafText, leafAfter, lineOf, Adds}
+use Rattle.listing.specs.Text.{digit, decimalIn, decimal, spaced, headingText, leafText, tableLine, lineOf, Adds}
 use Rattle.listing.specs.declared.Line.{Line}
 
 pub line-length : {line : Line} (text : List ℕ) → line ≡ lineOf text → line .length ≡ length text
@@ -120,16 +120,16 @@ leaf-length : (leaf : ℕ) (numbers : List ℕ) → length (leafText leaf number
 leaf-length leaf numbers = omega (arith, decimal-length 20 leaf, spaced-length numbers, length-append (decimal leaf) (spaced numbers))
 
 -- the line of a leaf whose record the table holds, and of one whose record it does not hold
-pub after-held : (table : List ℕ) (i : ℕ) → i < length table / recordNumbers → leafAfter table i ≡ leafText (i + 1) (take recordNumbers (drop (recordNumbers * i) table))
-unfolding leafAfter
+pub after-held : (table : List ℕ) (i : ℕ) → i < length table / recordNumbers → tableLine table i ≡ leafText (i + 1) (take recordNumbers (drop (recordNumbers * i) table))
+unfolding tableLine
 after-held table i h = pick-yes (ltb i (length table / recordNumbers)) (leafText (i + 1) (take recordNumbers (drop (recordNumbers * i) table))) [] (lt-ltb i (length table / recordNumbers) h)
 
-pub after-none : (table : List ℕ) (i : ℕ) → length table / recordNumbers ≤ i → leafAfter table i ≡ []
-unfolding leafAfter
+pub after-none : (table : List ℕ) (i : ℕ) → length table / recordNumbers ≤ i → tableLine table i ≡ []
+unfolding tableLine
 after-none table i h = pick-no (ltb i (length table / recordNumbers)) (leafText (i + 1) (take recordNumbers (drop (recordNumbers * i) table))) [] (le-ltb i (length table / recordNumbers) h)
 
-pub after-length : (table : List ℕ) (i : ℕ) → length (leafAfter table i) ≤ 146
-unfolding leafAfter
+pub after-length : (table : List ℕ) (i : ℕ) → length (tableLine table i) ≤ 146
+unfolding tableLine
 after-length table i =
     let numbers : List ℕ = take recordNumbers (drop (recordNumbers * i) table) in
     pick-holds (λ (text : List ℕ). length text ≤ 146) (ltb i (length table / recordNumbers)) (leafText (i + 1) numbers) []

@@ -51,8 +51,8 @@ abbrev pub leafText : ℕ → List ℕ → List ℕ
 leafText leaf numbers = decimal leaf ++ spaced numbers
 
 -- the line of the leaf with so many before it, from its record in the table; nothing where the table holds no such record
-unfoldable pub leafAfter : List ℕ → ℕ → List ℕ
-leafAfter table i = pick (ltb i (length table / recordNumbers)) (leafText (i + 1) (take recordNumbers (drop (recordNumbers * i) table))) []
+unfoldable pub tableLine : List ℕ → ℕ → List ℕ
+tableLine table i = pick (ltb i (length table / recordNumbers)) (leafText (i + 1) (take recordNumbers (drop (recordNumbers * i) table))) []
 
 -- the line that holds a text, with zeros after it
 abbrev pub lineOf : List ℕ → Line

@@ -4,7 +4,7 @@ ghost use mathlib.Core.Path.{_≡_};
 ghost use Prim.Native.Nat.{_+_, _*_, _≤_, _<_};
 ghost use lib.ListN.{length, take, drop};
 ghost use Rattle.segment.specs.Constants.{recordNumbers};
-ghost use Rattle.listing.specs.Text.{decimalIn, spaced, okWord, refusedText, headingText, leafText, leafAfter, lineOf, Adds};
+ghost use Rattle.listing.specs.Text.{decimalIn, spaced, okWord, refusedText, headingText, leafText, tableLine, lineOf, Adds};
 use machine::Refusal;
 use state::FinishAnswer;
 use state::NUMBERS;
@@ -140,8 +140,8 @@ fn leaf_at(table: &[u64], i: usize) -> Line
 }
 
 // The line of the leaf with so many before it, from its record in the leaf table; empty where the table holds no such record.
-pub fn leaf_after(table: &[u64], i: usize) -> Line
-    ensures { λ r. ⌜ r ≡ lineOf (leafAfter (now (table .entry)) i) ⌝ }
+pub fn table_line(table: &[u64], i: usize) -> Line
+    ensures { λ r. ⌜ r ≡ lineOf (tableLine (now (table .entry)) i) ⌝ }
 {
     if table.len() / NUMBERS <= i {
         return starting(b"");

@@ -1,6 +1,6 @@
 // The bytes of the number that is being read, taken together: none of them is its last, and the state after them.
 use header::spelled;
-use jump::lesser;
+use jump::least;
 use numbers::AtHand;
 use numbers::stage_again;
 use numbers::stage_number;
@@ -76,7 +76,7 @@ fn taken_together(x: AtHand, rest: u64, n: u64) -> u64
     requires { ⌜ n ≤ limit ⌝ }
     ensures { λ r. ⌜ r ≡ together (x .more) rest n ⌝ }
 {
-    lesser(x.more, lesser(rest, LIMIT - n))
+    least(x.more, least(rest, LIMIT - n))
 }
 
 // The bytes of the number at hand are taken together, as far as the piece has them and another byte; none of them is the number's last.

@@ -3,9 +3,9 @@ use data::text::part;
 use libc::STDOUT_FILENO;
 use listing::Line;
 use listing::heading;
-use listing::leaf_after;
 use listing::leaf_line;
 use listing::refused_line;
+use listing::table_line;
 use lookup::LookupAnswer;
 use lookup::Record;
 use machine::Refusal;
@@ -46,7 +46,7 @@ pub fn print_fed(answer: FeedAnswer) {
 // The line of the leaf with so many before it, after a `/`.
 fn print_leaf(table: &[u64], i: usize) {
     print(b"/");
-    print_line(leaf_after(table, i));
+    print_line(table_line(table, i));
 }
 
 fn print_leaves(leaves: u64, table: &[u64]) {

@@ -2,7 +2,7 @@
 use Prim.Native.Nat.{ℕ, _-_, _≤_}
 use mathlib.Core.List.{List}
 use native.Mathlib.Omega.{arith}
-use Rattle.listing.specs.Text.{leafAfter}
+use Rattle.listing.specs.Text.{tableLine}
 use Rattle.listing.proofs.Laws.{line-length, after-length}
 use borrow.Author.Needs.{needs}
 use Rattle.list.proofs.print_leaves.Statement.{statement}
@@ -17,14 +17,14 @@ abbrev μ-loop : tie.MeasureT-loop
 loop-holds : tie.Need-loop-holds Inv-loop μ-loop
 loop-holds c = omega arith
 
-leaf-after-requires : tie.Need-leaf-after-requires Inv-loop μ-loop
-leaf-after-requires c κs = search needs
+table-line-requires : tie.Need-table-line-requires Inv-loop μ-loop
+table-line-requires c κs = search needs
 
 print-line-requires : tie.Need-print-line-requires Inv-loop μ-loop
 print-line-requires c κs =
     let table : List ℕ = c .before .before .before .before .before .args .table .now in
     let i : ℕ = c .before .before .before .loop .i in
-    omega (arith, line-length (leafAfter table i) (c .leaf-after .ensures), after-length table i)
+    omega (arith, line-length (tableLine table i) (c .table-line .ensures), after-length table i)
 
 returns : tie.Need-returns Inv-loop μ-loop
 returns c = tt
@@ -51,7 +51,7 @@ print-leaves-spec =
     Inv-loop
     μ-loop
     loop-holds
-    leaf-after-requires
+    table-line-requires
     print-line-requires
     returns
     add-i

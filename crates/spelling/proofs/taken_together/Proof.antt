@@ -5,17 +5,17 @@ use Rattle.state.specs.Jump.{least}
 use Rattle.spelling.proofs.taken_together.Statement.{statement}
 use Rattle.spelling.proofs.taken_together.Tie as tie
 
-sub-lesser : tie.Need-sub-lesser
-sub-lesser c = search needs
+sub-least : tie.Need-sub-least
+sub-least c = search needs
 
-lesser-requires : tie.Need-lesser-requires
-lesser-requires c κs = search needs
+least-requires : tie.Need-least-requires
+least-requires c κs = search needs
 
-lesser-requires-2 : tie.Need-lesser-requires-2
-lesser-requires-2 c κs = search needs
+least-requires-2 : tie.Need-least-requires-2
+least-requires-2 c κs = search needs
 
 returns : tie.Need-returns
-returns c = c .lesser2 .ensures ∙ ap (λ (l : ℕ). least (c .before .before .args .x .more) l) (c .before .lesser .ensures)
+returns c = c .least2 .ensures ∙ ap (λ (l : ℕ). least (c .before .before .args .x .more) l) (c .before .least .ensures)
 
 pub taken-together-spec : {M : Type 1} → statement M
-taken-together-spec = tie.close (tie.spec sub-lesser lesser-requires lesser-requires-2 returns)
+taken-together-spec = tie.close (tie.spec sub-least least-requires least-requires-2 returns)

@@ -1,12 +1,12 @@
--- `leaf_after` meets its contract.
+-- `table_line` meets its contract.
 use Prim.Native.Nat.{ℕ}
 use mathlib.Core.Path.{sym, ap, _∙_}
 use mathlib.Core.List.{List}
 use Rattle.listing.specs.Text.{lineOf}
 use Rattle.listing.proofs.Laws.{after-held, after-none}
 use borrow.Author.Needs.{needs}
-use Rattle.listing.proofs.leaf_after.Statement.{statement}
-use Rattle.listing.proofs.leaf_after.Tie as tie
+use Rattle.listing.proofs.table_line.Statement.{statement}
+use Rattle.listing.proofs.table_line.Tie as tie
 
 slice-aggregate-starting : tie.Need-slice-aggregate-starting
 slice-aggregate-starting c = search needs
@@ -29,5 +29,5 @@ returns-2 c =
     let i : ℕ = c .before .before .before .args .i in
     c .leaf-at .ensures ∙ sym (ap lineOf (after-held table i (c .before .if1 .left)))
 
-pub leaf-after-spec : {M : Type 1} → statement M
-leaf-after-spec = tie.close (tie.spec slice-aggregate-starting starting-requires returns leaf-at-requires returns-2)
+pub table-line-spec : {M : Type 1} → statement M
+table-line-spec = tie.close (tie.spec slice-aggregate-starting starting-requires returns leaf-at-requires returns-2)

@@ -3,8 +3,8 @@ use Rattle.basics.specs.Choose.{pick}
 use borrow.Author.Tests.{lt-ltb, le-ltb}
 use mathlib.Core.Path.{sym}
 use Rattle.basics.proofs.Picks.{pick-yes, pick-no}
-use Rattle.jump.proofs.lesser.Statement.{statement}
-use Rattle.jump.proofs.lesser.Tie as tie
+use Rattle.jump.proofs.least.Statement.{statement}
+use Rattle.jump.proofs.least.Tie as tie
 
 returns : tie.Need-returns
 unfolding least pick
@@ -14,5 +14,5 @@ returns-2 : tie.Need-returns-2
 unfolding least pick
 returns-2 c = sym (pick-no _ _ _ (le-ltb _ _ (c .if1 .left)))
 
-pub lesser-spec : {M : Type 1} → statement M
-lesser-spec = tie.close (tie.spec returns returns-2)
+pub least-spec : {M : Type 1} → statement M
+least-spec = tie.close (tie.spec returns returns-2)
