@@ -2,19 +2,19 @@
 -- the leaf that covers it; a time is refused exactly when no leaf covers it.
 use Prim.Native.Nat.{ℕ, zero, suc, _+_, _*_, _/_, _≤_, _<_}
 use mathlib.Core.Path.{_≡_, refl, ap, sym, _∙_}
-use mathlib.Core.Logic.{_↔_, _≢_, _⊎_, inl, inr, ⊎-elim}
+use mathlib.Core.Logic.{_↔_, _≢_, ⊎-elim}
 use mathlib.Core.List.{List, [], _∷_, _++_}
 use mathlib.Core.Option.{Option, some, none}
 use mathlib.Core.Bool.{Bool, true, false}
 use native.Mathlib.Omega.{arith}
 use lib.Dec.{eqb, ltb}
-use lib.ListN.{length, take, drop, length-append}
-use borrow.Author.Tests.{eqb-true, ltb-true, lt-ltb, le-ltb}
+use lib.ListN.{length, drop}
+use borrow.Author.Tests.{eqb-true, ltb-true, ltb-false, le-ltb}
 use Rattle.basics.specs.Choose.{pick}
 use Rattle.basics.specs.Bytes.{AllBytes}
-use Rattle.basics.proofs.Picks.{lt-or-ge, pick-yes, pick-no, pick-holds}
-use Rattle.basics.proofs.Options.{absurd-some}
-use Rattle.segment.specs.Constants.{workBytes, recordNumbers, mostRecords}
+use Rattle.basics.proofs.Picks.{lt-or-ge, pick-no, pick-holds}
+use Rattle.basics.proofs.Options.{pick-else}
+use Rattle.segment.specs.Constants.{limit, workBytes, recordNumbers, mostRecords}
 use Rattle.segment.specs.Boxes.{durations}
 use Rattle.segment.specs.Tree.{Leaf, Opened, covers, topIndex, segment}
 use Rattle.segment.specs.Parts.{At, One}
@@ -22,7 +22,6 @@ use Rattle.machine.specs.Faults.{refusal}
 use Rattle.machine.specs.Run.{Res, okay, fail, cut}
 use Rattle.machine.specs.declared.Refusal.{Refusal}
 use Rattle.state.specs.declared.Top.{Top}
-use Rattle.state.specs.declared.State.{State}
 use Rattle.state.specs.declared.State.the-variants as state
 use Rattle.state.specs.declared.FeedAnswer.{FeedAnswer}
 use Rattle.state.specs.declared.FeedAnswer.the-variants as feeds
@@ -30,22 +29,22 @@ use Rattle.state.specs.declared.FinishAnswer.{FinishAnswer}
 use Rattle.state.specs.declared.FinishAnswer.the-variants as finishes
 use Rattle.state.specs.Flow.{Flow, Left, room, putAll}
 use Rattle.state.specs.Ranges.{inRange, InRange}
-use Rattle.state.specs.Calls.{Out, startOf, feedOf, finishOf, finishAfter, wholeOf}
+use Rattle.state.specs.Calls.{Out, startOf, feedOf, finishAfter, wholeOf}
 use Rattle.state.proofs.RangeTests.{in-range}
 use Rattle.state.proofs.Ranges.{start-in-range, feed-in-range, finish-in-range}
 use Rattle.descent.specs.Whole.{outcome, readD, wholeD}
-use Rattle.lookup.specs.declared.LookupAnswer.{LookupAnswer}
 use Rattle.lookup.specs.declared.LookupAnswer.the-variants as answer
 use Rattle.lookup.specs.Rows.{recordOf, rowsOf}
 use Rattle.lookup.specs.Lookup.{lookIn, lookupOf}
 use Rattle.lookup.proofs.Listed.{NoLeafCovers, lookup-refuses}
 use Rattle.lookup.proofs.TheLeaf.{segment-found, segment-before, segment-past, rows-length, lookup-listed}
-use Rattle.demands.specs.Verdict.{Verdict, wrong, full, fine, told, NotFine, Meets, Listing, seat, verdictBy, verdictOf}
-use Rattle.demands.specs.Demands.{Accepts}
+use Rattle.demands.specs.Verdict.{Verdict, wrong, full, fine, told, Meets, Listing, seat, verdictBy, verdictOf}
+use Rattle.demands.specs.Demands.{stated, Accepts, BeginsWith}
 use Rattle.demands.proofs.Stored.{put-between}
 use Rattle.demands.proofs.Seats.{seat-fits, seat-full}
 use Rattle.demands.proofs.LawD.{law-d}
 use Rattle.demands.proofs.LawT.{law-t}
+use Rattle.demands.proofs.Stated.{read-stated}
 
 -- What a verdict says of the answer and the table.
 not-fine : {A : Type 0} (t : Bool) (p : ℕ) (l : Listing) → pick t (full p) wrong ≡ fine l → A
@@ -70,13 +69,21 @@ unfolding verdictBy
 verdict-full (finishes.Listed n) t p e = let z : _≡_ {A = ℕ} 0 1 = cc in absurd (omega arith)
 verdict-full (finishes.Refused x) t p e = ap (λ (y : Refusal). finishes.Refused y) (is-full x p (eqb (x .number) 15) refl e)
 
--- an accepted answer comes with an accepted state that counts the same leaves
-listed-state : (r : Res Top Flow Left) (k : ℕ) → outcome r .answer ≡ finishes.Listed k → (n : ℕ) × (top : Top) × (outcome r .state ≡ state.Accepted n k top)
+-- an accepted answer comes from a reading that ends with its last byte
+listed-read : (r : Res Top Flow Left) (k : ℕ) → outcome r .answer ≡ finishes.Listed k → (top : Top) × (f : Flow) × (n : ℕ) × (r ≡ okay top f n []) × (f .leaves ≡ k)
 unfolding outcome
-listed-state (okay top f n []) k e = let q : f .leaves ≡ k = cc in (n, top, ap (λ (z : ℕ). state.Accepted n z top) q)
-listed-state (okay top f n (b ∷ bs)) k e = let z : _≡_ {A = ℕ} 0 1 = cc in absurd (omega arith)
-listed-state (fail x l n) k e = let z : _≡_ {A = ℕ} 0 1 = cc in absurd (omega arith)
-listed-state (cut l n) k e = let z : _≡_ {A = ℕ} 0 1 = cc in absurd (omega arith)
+listed-read (okay top f n []) k e = let q : f .leaves ≡ k = cc in (top, f, n, refl, q)
+listed-read (okay top f n (b ∷ bs)) k e = let z : _≡_ {A = ℕ} 0 1 = cc in absurd (omega arith)
+listed-read (fail x l n) k e = let z : _≡_ {A = ℕ} 0 1 = cc in absurd (omega arith)
+listed-read (cut l n) k e = let z : _≡_ {A = ℕ} 0 1 = cc in absurd (omega arith)
+
+-- a segment of the tree lies within the limit
+segment-small : (brand : ℕ) (bytes : List ℕ) (ls : List Leaf) → segment brand bytes ≡ some ls → length bytes ≤ limit
+unfolding segment
+segment-small brand bytes ls e = let (small, e') = pick-else (ltb limit (length bytes)) _ ls e in ltb-false limit (length bytes) small
+
+accepted-alike : (n m a b : ℕ) (s t : Top) → n ≡ m → a ≡ b → s ≡ t → state.Accepted n a s ≡ state.Accepted m b t
+accepted-alike n m a b s t p q r = cc
 
 -- as many records as the room fit the table
 room-fits : (table : List ℕ) → recordNumbers * room table ≤ length table
@@ -108,12 +115,17 @@ module _ (brand : ℕ) (bytes work table : List ℕ) (all : AllBytes bytes) (lon
   whole-meets : Meets (verdictOf o) (told (segment brand bytes) (λ ls. seat ls 0 table))
   whole-meets = rw (← law-d brand bytes work table all) (law-t brand bytes work table long)
 
-  whole-state : (k : ℕ) → o .answer ≡ finishes.Listed k → (n : ℕ) × (top : Top) × (o .state ≡ state.Accepted n k top)
-  unfolding wholeD
-  whole-state k e =
-      let same : o ≡ outcome (readD brand bytes work table) = sym (law-d brand bytes work table all) ∙ pick-no (ltb (length work) workBytes) _ _ (le-ltb (length work) workBytes long) in
-      let (n, top, q) = listed-state (readD brand bytes work table) k (sym (ap (λ (z : Out FinishAnswer). z .answer) same) ∙ e) in
-      (n, top, ap (λ (z : Out FinishAnswer). z .state) same ∙ q)
+  -- an accepted reading of a segment leaves a state that has its bytes, its leaves and what its top index states
+  whole-state : (ls : List Leaf) → segment brand bytes ≡ some ls → (k : ℕ) → o .answer ≡ finishes.Listed k →
+      (top : Opened) × (topIndex brand bytes ≡ some top) × (o .state ≡ state.Accepted (length bytes) k (stated (top .index)))
+  unfolding wholeD outcome
+  whole-state ls e k listed =
+      let r : Res Top Flow Left = readD brand bytes work table in
+      let same : o ≡ outcome r = sym (law-d brand bytes work table all) ∙ pick-no (ltb (length work) workBytes) _ _ (le-ltb (length work) workBytes long) in
+      let (says, f, n, read, leaves) = listed-read r k (sym (ap (λ (z : Out FinishAnswer). z .answer) same) ∙ listed) in
+      let (count, top, opened, is-top) = read-stated brand bytes work table says f n (segment-small brand bytes ls e) read in
+      let there : o .state ≡ state.Accepted n (f .leaves) says = ap (λ (z : Out FinishAnswer). z .state) same ∙ ap (λ (z : Res Top Flow Left). outcome z .state) read in
+      (top, opened, there ∙ accepted-alike n (length bytes) (f .leaves) k says (stated (top .index)) count leaves is-top)
 
   -- the rows of leaves at the front of the table
   rows-front : (ls : List Leaf) → length ls ≤ room table → putAll table (recordNumbers * 0) (rowsOf ls) ≡ rowsOf ls ++ drop (recordNumbers * length ls) table
@@ -127,14 +139,14 @@ module _ (brand : ℕ) (bytes work table : List ℕ) (all : AllBytes bytes) (lon
   seated ls e = rw e at whole-meets
 
   -- A segment of the tree whose leaves the table has room for is accepted with them.
-  pub accepts : (ls : List Leaf) → segment brand bytes ≡ some ls → length ls ≤ room table → Accepts o table ls
+  pub accepts : (ls : List Leaf) → segment brand bytes ≡ some ls → length ls ≤ room table → Accepts brand bytes table ls o
   accepts ls e fits =
       let l : Listing = record { leaves = 0 + length ls; table = putAll table (recordNumbers * 0) (rowsOf ls) } in
       let v = verdict-fine (o .answer) (o .table) l (meets-fine (verdictOf o) (seat ls 0 table) l (seated ls e) (seat-fits ls 0 table (omega arith))) in
       let q : 0 + length ls ≡ length ls = omega arith in
       let a : o .answer ≡ finishes.Listed (length ls) = v .0 ∙ ap (λ (k : ℕ). finishes.Listed k) q in
-      let (n, top, st) = whole-state (length ls) a in
-      record { answers = a; count = n; top = top; states = st; lists = v .1 ∙ rows-front ls fits }
+      let (top, opened, st) = whole-state ls e (length ls) a in
+      record { answers = a; top = top; opened = opened; states = st; lists = v .1 ∙ rows-front ls fits }
 
   -- A segment of the tree with more leaves is refused with 15 at the first leaf beyond the room.
   pub refuses-full : (ls : List Leaf) (l : Leaf) → segment brand bytes ≡ some ls → At ls (room table) l → o .answer ≡ finishes.Refused (refusal 15 (l .position))
@@ -142,17 +154,17 @@ module _ (brand : ℕ) (bytes work table : List ℕ) (all : AllBytes bytes) (lon
       verdict-full (o .answer) (o .table) (l .position) (meets-full (verdictOf o) (seat ls 0 table) (l .position) (seated ls e) (seat-full ls 0 table (room table) l (omega arith) at))
 
   -- What is accepted is a segment of the tree whose leaves the table has room for, with those leaves.
-  pub accepted : (k : ℕ) → o .answer ≡ finishes.Listed k → (ls : List Leaf) × (segment brand bytes ≡ some ls) × (length ls ≤ room table) × Accepts o table ls
+  pub accepted : (k : ℕ) → o .answer ≡ finishes.Listed k → (ls : List Leaf) × (segment brand bytes ≡ some ls) × (length ls ≤ room table) × Accepts brand bytes table ls o
   unfolding told verdictBy
   accepted k e = by (segment brand bytes) refl
     where
       fine-here : verdictOf o ≡ fine (record { leaves = k; table = o .table })
       fine-here = ap (λ (a : FinishAnswer). verdictBy a (o .table)) e
 
-      beyond : (ls : List Leaf) → segment brand bytes ≡ some ls → room table < length ls → (ls : List Leaf) × (segment brand bytes ≡ some ls) × (length ls ≤ room table) × Accepts o table ls
+      beyond : (ls : List Leaf) → segment brand bytes ≡ some ls → room table < length ls → (ls : List Leaf) × (segment brand bytes ≡ some ls) × (length ls ≤ room table) × Accepts brand bytes table ls o
       beyond ls q more = let (l, at) = at-some ls (room table) more in listed-refused (o .answer) k (refusal 15 (l .position)) e (refuses-full ls l q at)
 
-      by : (s : Option (List Leaf)) → segment brand bytes ≡ s → (ls : List Leaf) × (segment brand bytes ≡ some ls) × (length ls ≤ room table) × Accepts o table ls
+      by : (s : Option (List Leaf)) → segment brand bytes ≡ s → (ls : List Leaf) × (segment brand bytes ≡ some ls) × (length ls ≤ room table) × Accepts brand bytes table ls o
       by none q = absurd (rw fine-here at (rw q at whole-meets))
       by (some ls) q = ⊎-elim (λ (more : room table < length ls). beyond ls q more) (λ (fits : length ls ≤ room table). (ls, q, fits, accepts ls q fits)) (lt-or-ge (room table) (length ls))
 
@@ -188,25 +200,35 @@ module _ (brand : ℕ) (bytes work table : List ℕ) (all : AllBytes bytes) (lon
       by p r (feeds.Read n) = finish-in-range (p .state) r
       by p r (feeds.Refused x) = r
 
-  -- Times looked up in the state and table that an accepted reading leaves.
-  module _ (ls : List Leaf) (e : segment brand bytes ≡ some ls) (fits : length ls ≤ room table) (t : ℕ) where
-    look : lookupOf (o .state) (o .table) t ≡ lookIn (length ls) (rowsOf ls ++ drop (recordNumbers * length ls) table) t
+  -- the list lent back as it was left
+  pub lent-back : (ls : List Leaf) → Accepts brand bytes table ls o → BeginsWith ls (o .table)
+  lent-back ls a = (drop (recordNumbers * length ls) table, a .lists)
+
+  -- Times looked up with the state that an accepted reading leaves and any table that begins with the list.
+  module _ (ls : List Leaf) (e : segment brand bytes ≡ some ls) (fits : length ls ≤ room table) (lent : List ℕ) (begins : BeginsWith ls lent) (t : ℕ) where
+    behind : List ℕ
+    behind = begins .0
+
+    look : lookupOf (o .state) lent t ≡ lookIn (length ls) (rowsOf ls ++ behind) t
+    unfolding behind
     look =
-        let a : Accepts o table ls = accepts ls e fits in
-        rw (a .states, a .lists) (lookup-listed (a .count) ls (a .top) (drop (recordNumbers * length ls) table) t (in-range (state.Accepted (a .count) (length ls) (a .top)) .1 (rw (a .states) at whole-in-range)))
+        let a : Accepts brand bytes table ls o = accepts ls e fits in
+        let says : Top = stated (a .top .index) in
+        let inside : inRange (state.Accepted (length bytes) (length ls) says) ≡ true = in-range (state.Accepted (length bytes) (length ls) says) .1 (rw (a .states) at whole-in-range) in
+        ap (λ (l : List ℕ). lookupOf (o .state) l t) (begins .1) ∙ rw (a .states) (lookup-listed (length bytes) ls says (begins .0) t inside)
 
     -- A time within the index's own time line gets the one leaf that covers it.
     pub found : (top : Opened) → topIndex brand bytes ≡ some top → top .index .time ≤ t → t < top .index .time + durations (top .index .entries) →
-        (one : One (λ l. covers t l ≡ true) ls) × (lookupOf (o .state) (o .table) t ≡ answer.Found (suc (one .place)) (recordOf (one .item)))
-    found top q from to = let (one, r) = segment-found brand bytes ls top e q (drop (recordNumbers * length ls) table) t from to in (one, look ∙ r)
+        (one : One (λ l. covers t l ≡ true) ls) × (lookupOf (o .state) lent t ≡ answer.Found (suc (one .place)) (recordOf (one .item)))
+    found top q from to = let (one, r) = segment-found brand bytes ls top e q behind t from to in (one, look ∙ r)
 
     -- A time is refused exactly when no leaf covers it.
-    pub refused-exactly : ((x : Refusal) × (lookupOf (o .state) (o .table) t ≡ answer.Refused x)) ↔ NoLeafCovers ls t
-    refused-exactly = rw look (lookup-refuses ls (drop (recordNumbers * length ls) table) t)
+    pub refused-exactly : ((x : Refusal) × (lookupOf (o .state) lent t ≡ answer.Refused x)) ↔ NoLeafCovers ls t
+    refused-exactly = rw look (lookup-refuses ls behind t)
 
     -- Before the list it is 23, past it 24.
-    pub before : (top : Opened) → topIndex brand bytes ≡ some top → t < top .index .time → lookupOf (o .state) (o .table) t ≡ answer.Refused (refusal 23 0)
-    before top q h = look ∙ segment-before brand bytes ls top e q (drop (recordNumbers * length ls) table) t h
+    pub before : (top : Opened) → topIndex brand bytes ≡ some top → t < top .index .time → lookupOf (o .state) lent t ≡ answer.Refused (refusal 23 0)
+    before top q h = look ∙ segment-before brand bytes ls top e q behind t h
 
-    pub past : (top : Opened) → topIndex brand bytes ≡ some top → top .index .time + durations (top .index .entries) ≤ t → lookupOf (o .state) (o .table) t ≡ answer.Refused (refusal 24 0)
-    past top q h = look ∙ segment-past brand bytes ls top e q (drop (recordNumbers * length ls) table) t h
+    pub past : (top : Opened) → topIndex brand bytes ≡ some top → top .index .time + durations (top .index .entries) ≤ t → lookupOf (o .state) lent t ≡ answer.Refused (refusal 24 0)
+    past top q h = look ∙ segment-past brand bytes ls top e q behind t h

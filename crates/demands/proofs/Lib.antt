@@ -20,5 +20,6 @@ pub mod OpeningTree
 pub mod OpeningNumbers
 pub mod Seats
 pub mod LawT
+pub mod Stated
 pub mod Exact
 pub mod CutAnywhere

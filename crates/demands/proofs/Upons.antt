@@ -2,12 +2,13 @@
 use Prim.Native.Nat.{ℕ, _+_, _≤_, _<_}
 use mathlib.Core.Path.{_≡_, refl, ap}
 use mathlib.Core.List.{List, [], _∷_, _++_}
-use mathlib.Core.Option.{Option, none}
+use mathlib.Core.Option.{Option, some, none}
 use mathlib.Core.Bool.{Bool, true, false, not, _&&_}
 use native.Mathlib.Omega.{arith}
 use lib.ListN.{length, take, drop}
 use Rattle.basics.specs.Choose.{pick}
 use Rattle.basics.specs.Bytes.{numberFrom}
+use Rattle.basics.proofs.Options.{absurd-some}
 use Rattle.machine.specs.Faults.{shows, unless}
 use Rattle.machine.specs.Run.{Res, okay, fail, cut, either, after, fieldD, plain}
 use Rattle.machine.specs.declared.Refusal.{Refusal}
@@ -41,6 +42,13 @@ unfolding upon
 upon-okay (okay q f n bs) k h = h q f n bs refl
 upon-okay (fail x l n) k h = refl
 upon-okay (cut l n) k h = refl
+
+pub upon-some : {R X : Type 0} (r : Res R Flow Left) (k : R → Flow → ℕ → List ℕ → Option X) (x : X) → upon r k ≡ some x →
+    (q : R) × (f : Flow) × (n : ℕ) × (bs : List ℕ) × (r ≡ okay q f n bs) × (k q f n bs ≡ some x)
+unfolding upon
+upon-some (okay q f n bs) k x e = (q, f, n, bs, refl, e)
+upon-some (fail y l n) k x e = absurd-some e
+upon-some (cut l n) k x e = absurd-some e
 
 -- faults that a byte shows
 pub upon-unless : {R X : Type 0} (xs : List Refusal) (l : Left) (n : ℕ) (r : Res R Flow Left) (k : R → Flow → ℕ → List ℕ → Option X) →

@@ -23,7 +23,7 @@ use Rattle.state.specs.Step.{World, reading, ended, refused, step, run}
 use Rattle.state.specs.Ranges.{inRange}
 use Rattle.state.specs.Calls.{Out, out, flowOf, leftOf, fed, stateOf, workOf, tableOf, answerOf, feedState, feedOf}
 use Rattle.state.specs.Named.{worldOf}
-use Rattle.state.specs.Parts.{feedNext, joined, feedAll}
+use Rattle.state.specs.Parts.{Held, heldAfter, feedHeld, feedAll, joined}
 use Rattle.state.proofs.Frames.{feed-work-length}
 use Rattle.state.proofs.RangeTests.{in-range}
 use Rattle.state.proofs.Ranges.{feed-in-range}
@@ -135,10 +135,10 @@ all-drop (suc m) [] a = a
 all-drop (suc m) (b ∷ bs) a = all-drop m bs (a .1)
 
 -- bytes fed in two parts leave what they leave in one
-pub feed-join : (s : State) (xs ys work table : List ℕ) → AllBytes xs → feedOf s (xs ++ ys) work table ≡ feedNext (feedOf s xs work table) ys
+pub feed-join : (s : State) (xs ys work table : List ℕ) → AllBytes xs → feedOf s (xs ++ ys) work table ≡ feedHeld (heldAfter (feedOf s xs work table)) ys
 feed-join s xs ys work table bytes = at (lt-or-ge (length work) workBytes) (tested (inRange s))
   where
-    at : (length work < workBytes) ⊎ (workBytes ≤ length work) → (inRange s ≡ true) ⊎ (inRange s ≡ false) → feedOf s (xs ++ ys) work table ≡ feedNext (feedOf s xs work table) ys
+    at : (length work < workBytes) ⊎ (workBytes ≤ length work) → (inRange s ≡ true) ⊎ (inRange s ≡ false) → feedOf s (xs ++ ys) work table ≡ feedHeld (heldAfter (feedOf s xs work table)) ys
     at (inl lt) t = feed-short s (xs ++ ys) work table lt ∙ rw (feed-short s xs work table lt) (sym (feed-short s ys work table lt))
     at (inr ge) (inr e) = feed-outside s (xs ++ ys) work table ge e ∙ rw (feed-outside s xs work table ge e) (sym (feed-outside s ys work table ge e))
     at (inr ge) (inl e) =
@@ -150,11 +150,15 @@ feed-join s xs ys work table bytes = at (lt-or-ge (length work) workBytes) (test
         ∙ ap (λ p. stateNext p ys) (sym (feed-inside s xs work table ge e))
         ∙ sym (feed-inside (o .state) ys (o .work) (o .table) (omega arith) kept)
 
--- however the bytes are cut
-pub cutting : (parts : List (List ℕ)) (s : State) (part work table : List ℕ) → AllBytes (joined part parts) → feedAll s part parts work table ≡ feedOf s (joined part parts) work table
+-- However the bytes are cut, what is held after them is the same; and so is all that a feed after them gives.
+pub cutting : (parts : List (List ℕ)) (h : Held) → AllBytes (joined parts) → feedAll h parts ≡ heldAfter (feedHeld h (joined parts))
 unfolding feedAll joined
-cutting [] s part work table bytes = refl
-cutting (next ∷ parts) s part work table bytes =
-    let o : Out FeedAnswer = feedOf s part work table in
-    cutting parts (o .state) next (o .work) (o .table) (bytes-second part (joined next parts) bytes)
-    ∙ sym (feed-join s part (joined next parts) work table (bytes-first part (joined next parts) bytes))
+cutting [] h bytes = let (s, w, t) = feed-none (h .state) (h .work) (h .table) in rw (s, w, t)
+cutting (part ∷ parts) h bytes =
+    cutting parts (heldAfter (feedHeld h part)) (bytes-second part (joined parts) bytes)
+    ∙ ap heldAfter (sym (feed-join (h .state) part (joined parts) (h .work) (h .table) (bytes-first part (joined parts) bytes)))
+
+pub cutting-then : (parts : List (List ℕ)) (part : List ℕ) (h : Held) → AllBytes (joined parts) → feedHeld (feedAll h parts) part ≡ feedHeld h (joined parts ++ part)
+cutting-then parts part h bytes =
+    ap (λ (g : Held). feedHeld g part) (cutting parts h bytes)
+    ∙ sym (feed-join (h .state) (joined parts) part (h .work) (h .table) bytes)

@@ -1,6 +1,6 @@
 -- Refusals that are kept, and calls that change nothing.
 use Prim.Native.Nat.{ℕ, _≤_, _<_}
-use mathlib.Core.Path.{_≡_, ap, sym}
+use mathlib.Core.Path.{_≡_, refl, ap, sym}
 use mathlib.Core.List.{List, [], _∷_}
 use mathlib.Core.Bool.{true, false}
 use mathlib.Core.Logic.{_⊎_, inl, inr}
@@ -21,7 +21,7 @@ use Rattle.state.specs.declared.FinishAnswer.the-variants as finishes
 use Rattle.state.specs.Step.{World, reading, ended, refused, run}
 use Rattle.state.specs.Ranges.{inRange, InRange, bounds}
 use Rattle.state.specs.Calls.{Out, out, flowOf, leftOf, stateOf, answerOf, feedState, feedOf, Finished, finished, finishState, finishOf}
-use Rattle.state.specs.Parts.{feedAll}
+use Rattle.state.specs.Parts.{held, feedHeld, feedAll}
 use Rattle.state.proofs.Cuts.{tested, feed-short, feed-outside, feed-inside}
 use Rattle.state.proofs.RangeTests.{in-range}
 use Rattle.state.proofs.Ranges.{feed-in-range}
@@ -40,12 +40,15 @@ pub finish-inside : (s : State) → inRange s ≡ true → finishOf s ≡ finish
 unfolding finishOf
 finish-inside s e = pick-yes (inRange s) _ _ e
 
--- any number of later feeds, and so any later finish
-pub keeps-all : (parts : List (List ℕ)) (s : State) (x : Refusal) → Keeps s x → (part work table : List ℕ) → workBytes ≤ length work →
-    feedAll s part parts work table ≡ out (feeds.Refused x) s work table
+-- any number of feeds later it is as it was, so that the next feed and the next finish give the refusal
+pub keeps-all : (parts : List (List ℕ)) (s : State) (x : Refusal) → Keeps s x → (work table : List ℕ) → workBytes ≤ length work → feedAll (held s work table) parts ≡ held s work table
 unfolding feedAll
-keeps-all [] s x k part work table h = k .feeding part work table h
-keeps-all (next ∷ parts) s x k part work table h = rw (k .feeding part work table h) (keeps-all parts s x k next work table h)
+keeps-all [] s x k work table h = refl
+keeps-all (part ∷ parts) s x k work table h = rw (k .feeding part work table h) (keeps-all parts s x k work table h)
+
+pub keeps-on : (parts : List (List ℕ)) (part : List ℕ) (s : State) (x : Refusal) → Keeps s x → (work table : List ℕ) → workBytes ≤ length work →
+    feedHeld (feedAll (held s work table) parts) part ≡ out (feeds.Refused x) s work table
+keeps-on parts part s x k work table h = rw (keeps-all parts s x k work table h) (k .feeding part work table h)
 
 -- a state of a kept refusal, inside its ranges, keeps that refusal
 pub refused-keeps : (n leaves : ℕ) (x : Refusal) → inRange (state.Refused n leaves x) ≡ true → Keeps (state.Refused n leaves x) x

@@ -9,6 +9,7 @@ pub mod Ranges
 pub mod Frames
 pub mod Cuts
 pub mod Kept
+pub mod Counts
 pub mod Past
 pub mod Edges
 pub mod Jump

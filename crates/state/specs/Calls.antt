@@ -57,6 +57,13 @@ answerOf (refused n x kept) = feeds.Refused x
 abbrev pub fed : World → Out FeedAnswer
 fed w = out (answerOf w) (stateOf w) (workOf w) (tableOf w)
 
+-- how many bytes a state has read
+unfoldable pub countOf : State → ℕ
+countOf (state.Reading n leaves now last s) = n
+countOf (state.Ended n leaves top) = n
+countOf (state.Refused n leaves x) = n
+countOf (state.Accepted n leaves top) = n
+
 -- Start never refuses. The brand is four bytes, as the number that they spell.
 abbrev pub startOf : ℕ → State
 startOf brand = state.Reading 0 0 0 0 (stage0 brand)

@@ -1,22 +1,37 @@
--- A piece fed in parts: each part with the state and the buffers that the one before left.
+-- A segment fed in parts: each part with the state and the two buffers that the one before left, whatever it answered.
 use Prim.Native.Nat.{ℕ}
 use mathlib.Core.List.{List, [], _∷_, _++_}
 use Rattle.state.specs.declared.State.{State}
 use Rattle.state.specs.declared.FeedAnswer.{FeedAnswer}
-use Rattle.state.specs.Calls.{Out, feedOf}
+use Rattle.state.specs.declared.FinishAnswer.{FinishAnswer}
+use Rattle.state.specs.Calls.{Out, out, feedOf, finishOf}
 
--- feeding what an earlier feed left, with the buffers handed back
-abbrev pub feedNext : Out FeedAnswer → List ℕ → Out FeedAnswer
-feedNext o piece = feedOf (o .state) piece (o .work) (o .table)
+-- what the caller holds between two calls: the state, and the buffers that it lends
+pub record Held : Type 0 where
+  pub state : State
+  pub work : List ℕ
+  pub table : List ℕ
 
--- parts joined, the first apart
-unfoldable pub joined : List ℕ → List (List ℕ) → List ℕ
-joined part [] = part
-joined part (next ∷ parts) = part ++ joined next parts
+abbrev pub held : State → List ℕ → List ℕ → Held
+held s work table = record { state = s; work = work; table = table }
 
--- parts fed one after the other, the buffers handed back
-unfoldable pub feedAll : State → List ℕ → List (List ℕ) → List ℕ → List ℕ → Out FeedAnswer
-feedAll s part [] work table = feedOf s part work table
-feedAll s part (next ∷ parts) work table =
-    let o : Out FeedAnswer = feedOf s part work table in
-    feedAll (o .state) next parts (o .work) (o .table)
+-- what a call left
+abbrev pub heldAfter : {A : Type 0} → Out A → Held
+heldAfter o = held (o .state) (o .work) (o .table)
+
+-- the next part fed, and finish called
+abbrev pub feedHeld : Held → List ℕ → Out FeedAnswer
+feedHeld h part = feedOf (h .state) part (h .work) (h .table)
+
+abbrev pub finishHeld : Held → Out FinishAnswer
+finishHeld h = out (finishOf (h .state) .answer) (finishOf (h .state) .state) (h .work) (h .table)
+
+-- parts fed in order: what is held after the last, or where there is none, what was held before
+unfoldable pub feedAll : Held → List (List ℕ) → Held
+feedAll h [] = h
+feedAll h (part ∷ parts) = feedAll (heldAfter (feedHeld h part)) parts
+
+-- the bytes of the parts
+unfoldable pub joined : List (List ℕ) → List ℕ
+joined [] = []
+joined (part ∷ parts) = part ++ joined parts
