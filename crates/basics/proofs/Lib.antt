@@ -1,3 +1,4 @@
 pub mod Picks
 pub mod Tests
 pub mod Options
+pub mod Bytes

@@ -78,16 +78,20 @@ module _ (brand : ℕ) (parts : List (List ℕ)) (work table : List ℕ) (all : 
   unfolding finishState
   short-finishes short = rw (short-parts parts (held (startOf brand) work table) short, finish-inside (startOf brand) (start-inside brand))
 
+  -- so that a reading that is accepted had one that is long enough
+  pub accepted-long : (k : ℕ) → inParts brand parts work table .answer ≡ finishes.Listed k → workBytes ≤ length work
+  accepted-long k e = at (lt-or-ge (length work) workBytes)
+    where
+      at : (length work < workBytes) ⊎ (workBytes ≤ length work) → workBytes ≤ length work
+      at (inl short) = let z : _≡_ {A = ℕ} 0 1 = cc (ap (λ (o : Out FinishAnswer). o .answer) (short-finishes short)) in absurd (omega arith)
+      at (inr long) = long
+
   -- A reading that is accepted, however it was cut: the bytes are a segment of the tree, it is accepted with its leaves, and each byte of its
   -- material belongs to one leaf or one inner index box, each tick to one leaf.
   pub accepted-belongs : (k : ℕ) → inParts brand parts work table .answer ≡ finishes.Listed k →
       (ls : List Leaf) × (segment brand bytes ≡ some ls) × (length ls ≤ room table) × Accepts brand bytes table ls (inParts brand parts work table) × Belongs brand bytes ls
-  accepted-belongs k e = at (lt-or-ge (length work) workBytes)
-    where
-      at : (length work < workBytes) ⊎ (workBytes ≤ length work) →
-          (ls : List Leaf) × (segment brand bytes ≡ some ls) × (length ls ≤ room table) × Accepts brand bytes table ls (inParts brand parts work table) × Belongs brand bytes ls
-      at (inl short) = let z : _≡_ {A = ℕ} 0 1 = cc (ap (λ (o : Out FinishAnswer). o .answer) (short-finishes short)) in absurd (omega arith)
-      at (inr long) =
-          let same = cut-anywhere long in
-          let (ls, is, fits, a) = accepted brand bytes work table all long k (sym (ap (λ (o : Out FinishAnswer). o .answer) same) ∙ e) in
-          (ls, is, fits, subst (Accepts brand bytes table ls) (sym same) a, belongs brand bytes ls is)
+  accepted-belongs k e =
+      let long = accepted-long k e in
+      let same = cut-anywhere long in
+      let (ls, is, fits, a) = accepted brand bytes work table all long k (sym (ap (λ (o : Out FinishAnswer). o .answer) same) ∙ e) in
+      (ls, is, fits, subst (Accepts brand bytes table ls) (sym same) a, belongs brand bytes ls is)

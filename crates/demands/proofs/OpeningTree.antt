@@ -28,7 +28,7 @@ use Rattle.state.specs.declared.Index.{Index}
 use Rattle.state.specs.Flow.{Flow, Left, left}
 use Rattle.state.specs.Rows.{is, bodyLength, topLengths, openingFaults}
 use Rattle.state.specs.Sidx.{Place, topmost, sumFaults}
-use Rattle.state.proofs.Cuts.{bytes-first, all-drop}
+use Rattle.basics.proofs.Bytes.{bytes-first, all-drop}
 use Rattle.state.specs.Opening.{Opened, passed, indexed, spanOf, openingBox, closeOpening, opening}
 use Rattle.descent.specs.Sidx.{sidxD}
 use Rattle.descent.specs.Opening.{skipTo, stypD, openingBodyD, openingD}

@@ -11,7 +11,7 @@ pub feed-once : OneOutcome 3 feed-kinds.ps feed-kinds.r feed-stated.Pre feed-sta
 feed-once = record {
   asks-nothing = λ κs given. tt;
   outcomes-coincide = λ κs given r r' left left' p q.
-      let same = p ∙ sym q in (
+      let same = p .0 ∙ sym (q .0) in (
         ap (λ (o : Out FeedAnswer). record { answer = o .answer; state = o .state }) same,
         ap (λ (o : Out FeedAnswer). after 3 feed-kinds.ps feed-kinds.r κs given (tt, (tt, (o .work, (o .table, tt))))) same,
       );

@@ -14,6 +14,7 @@ use step::state_byte;
 ghost use mathlib.Core.Path.{_≡_};
 ghost use Prim.Native.Nat.{_≤_, _<_};
 ghost use lib.ListN.{length};
+ghost use Rattle.basics.specs.Bytes.{AllBytes};
 ghost use Rattle.segment.specs.Constants.{workBytes};
 ghost use Rattle.machine.specs.Faults.{refusal};
 ghost use Rattle.state.specs.Calls.{out, feedOf, feedState};
@@ -112,8 +113,10 @@ fn turned_away(s: State, number: u64) -> Fed
 }
 
 // One part of a segment, with the work area and the leaf table lent for it. Checks 1, 2, the kept refusal, 22, then bytes.
+// That a lent part holds bytes is told too: what is proved of lists of bytes then holds of every part that can be lent.
 pub fn feed(s: State, piece: &[u8], work: &mut [u8], table: &mut [u64]) -> Fed
     ensures { λ r. ⌜ out (r .answer) (r .state) (now (work .exit)) (now (table .exit)) ≡ feedOf s (now (piece .entry)) (now (work .entry)) (now (table .entry)) ⌝ }
+    ensures bytes { λ r. ⌜ AllBytes (now (piece .entry)) ⌝ }
 {
     if work.len() < WORK_BYTES {
         return turned_away(s, 1);

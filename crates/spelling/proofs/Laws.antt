@@ -1,8 +1,7 @@
 -- What the bytes of a number leave when they are taken together: the piece reads on as it did, and the state stays in its ranges.
-use Prim.Native.Nat.{ℕ, zero, suc, _+_, _-_, _^_, _≤_, _<_}
+use Prim.Native.Nat.{ℕ, _+_, _-_, _≤_, _<_}
 use mathlib.Core.Path.{_≡_, refl, ap, sym, subst, _∙_}
-use mathlib.Core.List.{List, [], _∷_, _++_}
-use mathlib.Core.Bool.{Bool, true, false}
+use mathlib.Core.List.{List, [], _∷_}
 use mathlib.Core.Logic.{inl, inr}
 use mathlib.Core.Option.{Option, some, none}
 use native.Mathlib.Omega.{arith}
@@ -24,7 +23,7 @@ use Rattle.state.specs.Calls.{Out, flowOf, stateOf, fed, feedState}
 use Rattle.state.specs.Numbers.{stageNumber, stageOn, workOn, putIn, Short, Fits}
 use Rattle.state.specs.Ranges.{Within, InRange, spelled, bounds, stageBounds}
 use Rattle.state.specs.Jump.{least}
-use Rattle.state.proofs.Cuts.{bytes-first, all-drop}
+use Rattle.basics.proofs.Bytes.{each-byte-all, bytes-first, all-drop}
 use Rattle.state.proofs.Jump.{least-first, least-second}
 use Rattle.state.proofs.Numbers.{none-on, none-put, number-taken}
 use Rattle.state.proofs.RangeNumbers.{stage-fits}
@@ -86,11 +85,6 @@ module _ (s : Stage) (x : AtHand) (k : ℕ) (piece : List ℕ) (i : ℕ) (work :
       (r ≡ stageOn s k (take k (drop i piece))) × (work' ≡ workOn s work (take k (drop i piece)))
   stage-moves m acc r work' em ea ew er =
       (rw (er, ea, e) refl, rw (ew, em, e) (stored-same (stageNumber s .place) (stageNumber s .more) k work (drop i piece)))
-
--- a list with a byte at each place
-each-byte-all : (xs : List ℕ) → ((i : ℕ) → getD xs i 0 < 256) → AllBytes xs
-each-byte-all [] f = tt
-each-byte-all (x ∷ xs) f = (f 0, each-byte-all xs (λ (i : ℕ). f (suc i)))
 
 -- bytes of a piece of bytes
 bytes-inside : (piece : List ℕ) (i k : ℕ) → ((j : ℕ) → getD piece j 0 < 256) → AllBytes (take k (drop i piece))

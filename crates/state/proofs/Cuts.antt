@@ -1,5 +1,5 @@
 -- Cutting changes nothing: bytes fed in parts, with the buffers handed back, leave what the same bytes leave in one part.
-use Prim.Native.Nat.{ℕ, zero, suc, _≤_, _<_}
+use Prim.Native.Nat.{ℕ, _≤_, _<_}
 use mathlib.Core.Path.{_≡_, refl, ap, sym, _∙_}
 use mathlib.Core.List.{List, [], _∷_, _++_}
 use mathlib.Core.Option.{some}
@@ -7,10 +7,11 @@ use mathlib.Core.Bool.{Bool, true, false}
 use mathlib.Core.Logic.{_⊎_, inl, inr}
 use native.Mathlib.Omega.{arith}
 use lib.Dec.{ltb}
-use lib.ListN.{length, drop}
+use lib.ListN.{length}
 use borrow.Author.Tests.{lt-ltb, le-ltb}
 use Rattle.basics.specs.Bytes.{AllBytes}
 use Rattle.basics.proofs.Picks.{lt-or-ge, pick-yes, pick-no}
+use Rattle.basics.proofs.Bytes.{bytes-first, bytes-second}
 use Rattle.segment.specs.Constants.{workBytes}
 use Rattle.machine.specs.Faults.{refusal}
 use Rattle.machine.specs.declared.Refusal.{Refusal}
@@ -120,19 +121,6 @@ feed-none s work table = at (lt-or-ge (length work) workBytes) (tested (inRange 
     at (inl lt) t = rw (feed-short s [] work table lt) (refl, refl, refl)
     at (inr ge) (inl e) = rw (feed-inside s [] work table ge e) (state-none s work table)
     at (inr ge) (inr e) = rw (feed-outside s [] work table ge e) (refl, refl, refl)
-
-pub bytes-first : (xs ys : List ℕ) → AllBytes (xs ++ ys) → AllBytes xs
-bytes-first [] ys h = tt
-bytes-first (x ∷ xs) ys h = (h .0, bytes-first xs ys (h .1))
-
-pub bytes-second : (xs ys : List ℕ) → AllBytes (xs ++ ys) → AllBytes ys
-bytes-second [] ys h = h
-bytes-second (x ∷ xs) ys h = bytes-second xs ys (h .1)
-
-pub all-drop : (m : ℕ) (bs : List ℕ) → AllBytes bs → AllBytes (drop m bs)
-all-drop zero bs a = a
-all-drop (suc m) [] a = a
-all-drop (suc m) (b ∷ bs) a = all-drop m bs (a .1)
 
 -- bytes fed in two parts leave what they leave in one
 pub feed-join : (s : State) (xs ys work table : List ℕ) → AllBytes xs → feedOf s (xs ++ ys) work table ≡ feedHeld (heldAfter (feedOf s xs work table)) ys

@@ -1,5 +1,8 @@
+-- `feed::feed` meets its contract: each way out is one of the checks of `feedOf`, by the laws of a feed; the part holds bytes by what is known
+-- of a lent slice.
 use Prim.Native.Nat.{_-_}
 use mathlib.Core.Path.{sym, _∙_}
+use Rattle.basics.proofs.Bytes.{each-byte-all}
 use Rattle.feed.proofs.Laws.{feeds-short, feeds-outside, feeds-inside}
 use Rattle.state.proofs.RangeTests.{in-range as within-range}
 use borrow.Author.Needs.{needs}
@@ -9,14 +12,23 @@ use Rattle.feed.proofs.feed.Tie as tie
 turned-away-requires : tie.Need-turned-away-requires
 turned-away-requires c κs = search needs
 
+-- the work area is short
 returns : tie.Need-returns
-returns c = feeds-short (c .before .before .before .before .before .args .s) (c .before .before .before .before .before .args .piece .now) (c .before .before .before .before .before .args .work .now) (c .before .before .before .before .before .args .table .now) _ _ (c .before .if1 .taken) (c .turned-away .ensures)
+returns c =
+    let area = c .before in
+    let known = area .before .before .before in
+    let a = known .before .args in
+    (feeds-short (a .s) (a .piece .now) (a .work .now) (a .table .now) _ _ (area .if1 .taken) (c .turned-away .ensures), each-byte-all (a .piece .now) (λ i. known .shared-slice-known .given i .fits))
 
 in-range-requires : tie.Need-in-range-requires
 in-range-requires c κs = search needs
 
 feed-bytes-requires : tie.Need-feed-bytes-requires
-feed-bytes-requires c κs = (c .before .before .before .before .if1 .left, within-range (c .before .before .before .before .before .before .before .before .args .s) .0 (sym (c .before .before .before .in-range .ensures) ∙ c .before .before .if2 .taken))
+feed-bytes-requires c κs =
+    let range = c .before .before in
+    let area = range .before .before in
+    let a = area .before .before .before .before .args in
+    (area .if1 .left, within-range (a .s) .0 (sym (range .before .in-range .ensures) ∙ range .if2 .taken))
 
 answer-for-requires : tie.Need-answer-for-requires
 answer-for-requires c κs = search needs
@@ -27,14 +39,32 @@ same-length c = search needs
 same-length-2 : tie.Need-same-length-2
 same-length-2 c = search needs
 
+-- the bytes are read
 returns-2 : tie.Need-returns-2
-returns-2 c = feeds-inside (c .before .before .before .before .before .before .before .before .before .before .before .before .before .before .args .s) (c .before .before .before .before .before .before .before .before .before .before .before .before .before .before .args .piece .now) (c .before .before .before .before .before .before .before .before .before .before .before .before .before .before .args .work .now) (c .before .before .before .before .before .before .before .before .before .before .before .before .before .before .args .table .now) _ _ _ _ (c .before .before .before .before .before .before .before .before .before .before .if1 .left) (sym (c .before .before .before .before .before .before .before .before .before .in-range .ensures) ∙ c .before .before .before .before .before .before .before .before .if2 .taken) (c .answer-for .ensures) (c .before .before .before .before .before .feed-bytes .ensures)
+returns-2 c =
+    let read = c .before .before .before .before .before in
+    let range = read .before .before .before in
+    let area = range .before .before in
+    let known = area .before .before .before in
+    let a = known .before .args in (
+      feeds-inside (a .s) (a .piece .now) (a .work .now) (a .table .now) _ _ _ _ (area .if1 .left) (sym (range .before .in-range .ensures) ∙ range .if2 .taken) (c .answer-for .ensures)
+          (read .feed-bytes .ensures),
+      each-byte-all (a .piece .now) (λ i. known .shared-slice-known .given i .fits),
+    )
 
 turned-away-requires-2 : tie.Need-turned-away-requires-2
 turned-away-requires-2 c κs = search needs
 
+-- the state is out of its ranges
 returns-3 : tie.Need-returns-3
-returns-3 c = feeds-outside (c .before .before .before .before .before .before .before .args .s) (c .before .before .before .before .before .before .before .args .piece .now) (c .before .before .before .before .before .before .before .args .work .now) (c .before .before .before .before .before .before .before .args .table .now) _ _ (c .before .before .before .if1 .left) (sym (c .before .before .in-range .ensures) ∙ c .before .if2 .left) (c .turned-away2 .ensures)
+returns-3 c =
+    let range = c .before in
+    let area = range .before .before in
+    let known = area .before .before .before in
+    let a = known .before .args in (
+      feeds-outside (a .s) (a .piece .now) (a .work .now) (a .table .now) _ _ (area .if1 .left) (sym (range .before .in-range .ensures) ∙ range .if2 .left) (c .turned-away2 .ensures),
+      each-byte-all (a .piece .now) (λ i. known .shared-slice-known .given i .fits),
+    )
 
 pub feed-spec : {M : Type 1} → statement M
 feed-spec =
