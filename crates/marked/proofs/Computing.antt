@@ -22,6 +22,7 @@ use Rattle.state.specs.Stages
 use Rattle.state.specs.Step
 use Rattle.state.specs.Traf
 use Rattle.lookup.specs.Lookup
+use Rattle.lookup.specs.Rows as LookupRows
 use Rattle.descent.specs.Leaf as DescentLeaf
 use Rattle.descent.specs.Opening as DescentOpening
 use Rattle.descent.specs.Sidx as DescentSidx
@@ -75,8 +76,8 @@ unfolding
     Whole.gapD Whole.slotD Whole.readBackD Whole.entryD Whole.entriesD Whole.underD Whole.materialD Whole.segmentD Whole.outcome Whole.wholeD
 theDescent = tt
 
--- the lookup
+-- the lookup, and the records of leaves
 unfoldable pub theLookup : Unit {0}
 unfolding
-    Lookup.recordAt Lookup.covers Lookup.coveringFrom Lookup.outside Lookup.found Lookup.lookupState Lookup.lookupOf
+    Lookup.recordAt Lookup.covers Lookup.coveringFrom Lookup.outside Lookup.found Lookup.lookupState Lookup.lookupOf LookupRows.rowsOf
 theLookup = tt
