@@ -4,14 +4,13 @@ use Prim.Native.Nat.{ℕ, _+_, _-_, _*_, _≤_, _<_}
 use mathlib.Core.Path.{_≡_, refl}
 use mathlib.Core.List.{[], _∷_}
 use mathlib.Core.Option.{Option, none}
-use mathlib.Core.Bool.{Bool, true, false, not, _&&_, _||_}
+use mathlib.Core.Bool.{Bool, true, not, _&&_, _||_}
 use native.Mathlib.Omega.{arith}
 use lib.Dec.{eqb, ltb, leb}
 use borrow.Author.Tests.{ltb-false, leb-false, eqb-true, not-false, ne-eqb, lt-ltb}
-use Rattle.basics.specs.Choose.{pick}
 use Rattle.basics.proofs.Picks.{pick-if}
 use Rattle.basics.proofs.Tests.{and-both, or-neither}
-use Rattle.segment.specs.Constants.{limit, timeLimit, entryBytes, mostEntries}
+use Rattle.segment.specs.Constants.{limit, timeLimit, entryBytes}
 use Rattle.machine.specs.Faults.{refusal, shows, lowest, unless}
 use Rattle.machine.specs.Run.{Sub, go, done, bad}
 use Rattle.machine.specs.Lists.{Next, goOn}
@@ -22,7 +21,6 @@ use Rattle.state.specs.declared.Top.{Top}
 use Rattle.state.specs.declared.Index.{Index}
 use Rattle.state.specs.declared.Levels.{Levels}
 use Rattle.state.specs.declared.Draft.{Draft}
-use Rattle.state.specs.declared.Sidx.{Sidx}
 use Rattle.state.specs.declared.IndexPart.the-variants as part
 use Rattle.state.specs.declared.Seen.{Seen}
 use Rattle.state.specs.declared.TrafSo.{TrafSo}
@@ -33,6 +31,7 @@ use Rattle.state.specs.Sidx.{Place, topmost, under, countFaults, sumFaul
 use Rattle.state.specs.Traf.{timed, fallFaults, trafNow, lacking, trafNext, trafBoxes, wrapTraf}
 use Rattle.state.specs.Levels.{Entry, inmost, stillOne, stillOpen, slotOf}
 use Rattle.state.specs.Stages.{onward, topOf, indexEnds, leafRow}
+use Rattle.state.proofs.BoxLengths.{six-before}
 
 -- After the top index: the time at which the next entry starts, and where the material starts and ends, when the index ended at `n`.
 abbrev pub nowOf : Sub Stage Top Flow Left → ℕ
@@ -118,12 +117,9 @@ top-sums span x now n e =
 -- 6 before 11: a count that the length of the box does not fit gives 6, whatever the count.
 pub length-before-count : (p : Place) (span : Span) (d : Draft) (v : ℕ) (f : Flow) (n : ℕ) → (span .end ≡ n + entryBytes * v → ⊥) →
     fieldEnds p span part.Count d v f n ≡ bad (refusal 6 (span .pos)) (left f)
-unfolding fieldEnds countFaults shows unless lowest pick
-length-before-count p span d v f n misfit = rw (ne-eqb (span .end) (n + entryBytes * v) misfit) (at (eqb v 0 || ltb mostEntries v))
-  where
-    at : (t : Bool) → _≡_ {A = Sub Sidx Index Flow Left} (bad (lowest (refusal 6 (span .pos)) (shows t 11 (span .pos))) (left f)) (bad (refusal 6 (span .pos)) (left f))
-    at true = refl
-    at false = refl
+unfolding fieldEnds countFaults
+length-before-count p span d v f n misfit =
+    rw (ne-eqb (span .end) (n + entryBytes * v) misfit) (six-before _ _ _ _ _ _ (omega arith))
 
 -- 18 and nothing else: a decode time of the reference track that falls at the end of its `tfdt` is no fault of a `traf` that ends there.
 pub fall-alone : (id : ℕ) (span : Span) (so : TrafSo) (pos v : ℕ) (f : Flow) (n : ℕ) → v < so .seen .last →

@@ -16,3 +16,5 @@ pub mod Jump
 pub mod Numbers
 pub mod RangeNumbers
 pub mod Phases
+pub mod BoxLengths
+pub mod IndexRows

@@ -50,11 +50,11 @@ use Rattle.state.proofs.RangeKept.{Numbered, Flows, Refuses, Goes, Kept
 -- Faults of headers where they stand.
 pub top-lengths : (h : Header) → Each Numbered (topLengths h)
 unfolding topLengths
-top-lengths h = both _ _ (shown _ 6 _ (omega arith)) (shown _ 6 _ (omega arith))
+top-lengths h = both _ _ (shown _ _ _ (omega arith)) (shown _ _ _ (omega arith))
 
 traf-faults : (t : Track) (h : Header) → Each Numbered (trafFaults t h)
 unfolding trafFaults
-traf-faults t h = both _ _ (shown _ 6 _ (omega arith)) (both _ _ (shown _ 16 _ (omega arith)) (shown _ 17 _ (omega arith)))
+traf-faults t h = both _ _ (shown _ _ _ (omega arith)) (both _ _ (shown _ _ _ (omega arith)) (shown _ _ _ (omega arith)))
 
 leaf-faults : (pos : ℕ) (had : Bool) (h : Header) (f : Flow) → Each Numbered (leafFaults pos had h f)
 unfolding leafFaults

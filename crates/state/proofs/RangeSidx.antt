@@ -44,53 +44,53 @@ sidx-starts = omega arith
 -- Faults of an index.
 version-faults : (span : Span) (v n : ℕ) → Each Numbered (sidxVersionFaults span v n)
 unfolding sidxVersionFaults
-version-faults span v n = both _ _ (shown _ 10 _ (omega arith)) (shown _ 6 _ (omega arith))
+version-faults span v n = both _ _ (shown _ _ _ (omega arith)) (shown _ _ _ (omega arith))
 
 id-faults : (p : Place) (span : Span) (v : ℕ) → Each Numbered (idFaults p span v)
 unfolding idFaults
 id-faults topmost span v = each-none Numbered
-id-faults (under top slot depth) span v = shown _ 12 _ (omega arith)
+id-faults (under top slot depth) span v = shown _ _ _ (omega arith)
 
 scale-faults : (p : Place) (span : Span) (v : ℕ) → Each Numbered (scaleFaults p span v)
 unfolding scaleFaults
-scale-faults topmost span v = shown _ 11 _ (omega arith)
-scale-faults (under top slot depth) span v = both _ _ (shown _ 11 _ (omega arith)) (shown _ 12 _ (omega arith))
+scale-faults topmost span v = shown _ _ _ (omega arith)
+scale-faults (under top slot depth) span v = both _ _ (shown _ _ _ (omega arith)) (shown _ _ _ (omega arith))
 
 time-faults : (p : Place) (span : Span) (now v : ℕ) → Each Numbered (timeFaults p span now v)
 unfolding timeFaults
 time-faults topmost span now v = each-none Numbered
-time-faults (under top slot depth) span now v = shown _ 12 _ (omega arith)
+time-faults (under top slot depth) span now v = shown _ _ _ (omega arith)
 
 offset-faults : (p : Place) (span : Span) (v : ℕ) → Each Numbered (offsetFaults p span v)
 unfolding offsetFaults
 offset-faults topmost span v = each-none Numbered
-offset-faults (under top slot depth) span v = shown _ 12 _ (omega arith)
+offset-faults (under top slot depth) span v = shown _ _ _ (omega arith)
 
 count-faults : (span : Span) (v n : ℕ) → Each Numbered (countFaults span v n)
 unfolding countFaults
-count-faults span v n = both _ _ (shown _ 6 _ (omega arith)) (shown _ 11 _ (omega arith))
+count-faults span v n = both _ _ (shown _ _ _ (omega arith)) (shown _ _ _ (omega arith))
 
 sum-faults : (p : Place) (span : Span) (x : Index) (now n : ℕ) → Each Numbered (sumFaults p span x now n)
 unfolding sumFaults
-sum-faults topmost span x now n = shown _ 14 _ (omega arith)
-sum-faults (under top slot depth) span x now n = shown _ 12 _ (omega arith)
+sum-faults topmost span x now n = shown _ _ _ (omega arith)
+sum-faults (under top slot depth) span x now n = shown _ _ _ (omega arith)
 
 -- a timescale without a fault is not 0
 scale-some : (p : Place) (span : Span) (v : ℕ) → scaleFaults p span v ≡ [] → 1 ≤ v
 unfolding scaleFaults
-scale-some topmost span v e = omega (arith, eqb-false v 0 (shows-none (eqb v 0) 11 (span .pos) e))
-scale-some (under top slot depth) span v e = omega (arith, eqb-false v 0 (shows-none (eqb v 0) 11 (span .pos) (none-first _ _ e)))
+scale-some topmost span v e = omega (arith, eqb-false v 0 (shows-none (eqb v 0) _ _ e))
+scale-some (under top slot depth) span v e = omega (arith, eqb-false v 0 (shows-none (eqb v 0) _ _ (none-first _ _ e)))
 
 -- nor is a count, and it is at most the most entries
 count-some : (span : Span) (v n : ℕ) → countFaults span v n ≡ [] → (1 ≤ v) × (v ≤ mostEntries)
 unfolding countFaults
 count-some span v n e =
-    let h = or-neither (eqb v 0) (ltb mostEntries v) (shows-none _ 11 (span .pos) (none-second (shows (not (eqb (span .end) (n + entryBytes * v))) 6 (span .pos)) _ e)) in
+    let h = or-neither (eqb v 0) (ltb mostEntries v) (shows-none _ _ _ (none-second (shows (not (eqb (span .end) (n + entryBytes * v))) 6 (span .pos)) _ e)) in
     (omega (arith, eqb-false v 0 (h .0)), ltb-false _ _ (h .1))
 
 sums-end : (p : Place) (span : Span) (x : Index) (now n : ℕ) → sumFaults p span x now n ≡ [] → Ends p x
 unfolding sumFaults Ends
-sums-end topmost span x now n e = leb-false _ _ (or-neither (ltb limit (n + x .offset + x .sizes)) (leb timeLimit (x .time + x .durations)) (shows-none _ 14 (span .pos) e) .1)
+sums-end topmost span x now n e = leb-false _ _ (or-neither (ltb limit (n + x .offset + x .sizes)) (leb timeLimit (x .time + x .durations)) (shows-none _ _ _ e) .1)
 sums-end (under top slot depth) span x now n e = tt
 
 module _ (t : ℕ) (p : Place) where
@@ -128,7 +128,7 @@ module _ (t : ℕ) (p : Place) where
       KeptIn t sidxBounds Read (entryEnds p span e d s v f n)
   unfolding entryEnds sidxBounds sizesRead durationsRead
   entry-ends span entry.Size d s v f n w u hv k =
-      unless-kept t sidxBounds Read (entrySizeFaults span v) (left f) _ (shown _ 11 _ (omega arith)) (k .0) (λ e. (omega arith, k))
+      unless-kept t sidxBounds Read (entrySizeFaults span v) (left f) _ (shown _ _ _ (omega arith)) (k .0) (λ e. (omega arith, k))
   entry-ends span entry.Duration d s v f n w u hv k = (omega arith, k)
   entry-ends span entry.Sap d s v f n w u hv k =
       pick-holds (KeptIn t sidxBounds Read) (eqb (suc (s .next)) (s .count)) _ _ (λ e. close-sidx span (indexOf d s) f n (omega arith) k)
