@@ -76,7 +76,7 @@ refused-world (ended n top kept) x e = let z : _≡_ {A = ℕ} 0 1 = cc in absur
 refused-world (refused n y kept) x e = let same : y ≡ x = cc in record { count = n; leaves = kept .leaves; is = ap (state.Refused n (kept .leaves)) same }
 
 -- what a refusal of a feed that looked at the state's phase leaves: the state after it, or it is 22 and nothing changed
-refused-feed : (s : State) (piece work table : List ℕ) (x : Refusal) → feedState s piece work table .answer ≡ feeds.Refused x →
+pub refused-feed : (s : State) (piece work table : List ℕ) (x : Refusal) → feedState s piece work table .answer ≡ feeds.Refused x →
     After (feedState s piece work table .state) x ⊎ ((x ≡ refusal 22 0) × (feedState s piece work table ≡ out (feeds.Refused x) s work table))
 unfolding feedState
 refused-feed (state.Reading n leaves now last s) piece work table x e = inl (refused-world (run (reading n s (flowOf leaves now last work table)) piece) x e)
@@ -103,7 +103,7 @@ finish-cases s P two else = at (tested (inRange s))
     at (inr e) = rw (finish-outside s e) two
 
 -- the ranges of a kept refusal's number
-numbers : (n leaves : ℕ) (x : Refusal) → InRange (state.Refused n leaves x) → (3 ≤ x .number) × (x .number ≤ 21)
+pub numbers : (n leaves : ℕ) (x : Refusal) → InRange (state.Refused n leaves x) → (3 ≤ x .number) × (x .number ≤ 21)
 unfolding bounds
 numbers n leaves x h = (h .1 .1 .0, h .1 .1 .1 .0)
 
@@ -118,10 +118,10 @@ unfolding bounds
 listed-in-range n leaves top h = h
 
 -- the answer of a feed and of a finish tells the number
-feed-number : (x y : Refusal) → feeds.Refused x ≡ feeds.Refused y → y .number ≡ x .number
+pub feed-number : (x y : Refusal) → feeds.Refused x ≡ feeds.Refused y → y .number ≡ x .number
 feed-number x y e = let same : x ≡ y = cc in ap (λ (z : Refusal). z .number) (sym same)
 
-finish-number : (x y : Refusal) → finishes.Refused x ≡ finishes.Refused y → y .number ≡ x .number
+pub finish-number : (x y : Refusal) → finishes.Refused x ≡ finishes.Refused y → y .number ≡ x .number
 finish-number x y e = let same : x ≡ y = cc in ap (λ (z : Refusal). z .number) (sym same)
 
 -- a feed that gives one of 3 to 21 worked on a state inside its ranges, and leaves the state after that refusal

@@ -18,3 +18,4 @@ pub mod RangeNumbers
 pub mod Phases
 pub mod BoxLengths
 pub mod IndexRows
+pub mod NeverGiven
