@@ -5,3 +5,4 @@ pub mod TheLeaf
 pub mod Written
 pub mod Passing
 pub mod OneOutcome
+pub mod NeverGiven
