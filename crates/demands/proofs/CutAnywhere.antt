@@ -43,7 +43,8 @@ finish-any (refused n x kept) e = rw (finish-inside (state.Refused n (kept .leav
 start-inside : (brand : ℕ) → inRange (startOf brand) ≡ true
 start-inside brand = in-range (startOf brand) .1 (start-in-range brand)
 
-finish-whole : (brand : ℕ) (bytes work table : List ℕ) → AllBytes bytes → workBytes ≤ length work → finishHeld (heldAfter (feedOf (startOf brand) bytes work table)) ≡ wholeOf brand bytes work table
+finish-whole : (brand : ℕ) (bytes work table : List ℕ) → AllBytes bytes → workBytes ≤ length work →
+    finishHeld (heldAfter (feedOf (startOf brand) bytes work table)) ≡ wholeOf brand bytes work table
 unfolding feedState stateOf
 finish-whole brand bytes work table all long =
     let w : World = run (reading 0 (stage0 brand) (flow0 work table)) bytes in

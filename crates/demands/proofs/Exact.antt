@@ -153,18 +153,22 @@ module _ (brand : ℕ) (bytes work table : List ℕ) (all : AllBytes bytes) (lon
   refuses-full ls l e at =
       verdict-full (o .answer) (o .table) (l .position) (meets-full (verdictOf o) (seat ls 0 table) (l .position) (seated ls e) (seat-full ls 0 table (room table) l (omega arith) at))
 
-  -- What is accepted is a segment of the tree whose leaves the table has room for, with those leaves.
-  pub accepted : (k : ℕ) → o .answer ≡ finishes.Listed k → (ls : List Leaf) × (segment brand bytes ≡ some ls) × (length ls ≤ room table) × Accepts brand bytes table ls o
+  -- a segment of the tree whose leaves the table has room for, accepted with those leaves
+  abbrev pub Allowed : Type 0
+  Allowed = (ls : List Leaf) × (segment brand bytes ≡ some ls) × (length ls ≤ room table) × Accepts brand bytes table ls o
+
+  -- What is accepted is such a segment.
+  pub accepted : (k : ℕ) → o .answer ≡ finishes.Listed k → Allowed
   unfolding told verdictBy
   accepted k e = by (segment brand bytes) refl
     where
       fine-here : verdictOf o ≡ fine (record { leaves = k; table = o .table })
       fine-here = ap (λ (a : FinishAnswer). verdictBy a (o .table)) e
 
-      beyond : (ls : List Leaf) → segment brand bytes ≡ some ls → room table < length ls → (ls : List Leaf) × (segment brand bytes ≡ some ls) × (length ls ≤ room table) × Accepts brand bytes table ls o
+      beyond : (ls : List Leaf) → segment brand bytes ≡ some ls → room table < length ls → Allowed
       beyond ls q more = let (l, at) = at-some ls (room table) more in listed-refused (o .answer) k (refusal 15 (l .position)) e (refuses-full ls l q at)
 
-      by : (s : Option (List Leaf)) → segment brand bytes ≡ s → (ls : List Leaf) × (segment brand bytes ≡ some ls) × (length ls ≤ room table) × Accepts brand bytes table ls o
+      by : (s : Option (List Leaf)) → segment brand bytes ≡ s → Allowed
       by none q = absurd (rw fine-here at (rw q at whole-meets))
       by (some ls) q = ⊎-elim (λ (more : room table < length ls). beyond ls q more) (λ (fits : length ls ≤ room table). (ls, q, fits, accepts ls q fits)) (lt-or-ge (room table) (length ls))
 

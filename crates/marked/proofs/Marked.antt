@@ -10,11 +10,11 @@ use borrow.Author.Tests.{le-ltb}
 use Rattle.machine.specs.Faults.{refusal}
 use Rattle.lookup.specs.Rows.{rowsOf}
 use Rattle.marked.specs.Segments.{S, sWith, T, tWith}
-use Rattle.marked.specs.Cases.{work0, table0, leafAt, workS, workT, acceptedState, Accepts, Refuses, firstOfS, leavesOfS, LookedUp, LookupInS}
+use Rattle.marked.specs.Cases.{work0, table0, leafAt, workS, workT, acceptedState, IsAccepted, IsRefused, firstOfS, leavesOfS, LookedUp, LookupInS}
 use Rattle.marked.proofs.Computing.{theSegments, theTree, theDescent, theLookup}
 
 -- S: 196 bytes, leaves at 76 and 136.
-pub s-accepted : Accepts S 196 leavesOfS workS
+pub s-accepted : IsAccepted S 196 leavesOfS workS
 unfolding theSegments theTree theDescent theLookup
 s-accepted = record { counted = refl; tree = refl; fed = refl; descended = refl }
 
@@ -35,36 +35,36 @@ s-lookup =
     }
 
 -- S without its last byte: 20, place 195.
-pub s-short : Refuses (take 195 S) 195 (refusal 20 195) 195 (firstOfS ∷ []) workS
+pub s-short : IsRefused (take 195 S) 195 (refusal 20 195) 195 (firstOfS ∷ []) workS
 unfolding theSegments theTree theDescent theLookup
 s-short = record { counted = refl; tree = refl; fed = refl; descended = refl }
 
 -- S and one byte more, whichever it is: 21, place 196.
-pub s-more : (b : ℕ) → Refuses (S ++ (b ∷ [])) 197 (refusal 21 196) 197 leavesOfS workS
+pub s-more : (b : ℕ) → IsRefused (S ++ (b ∷ [])) 197 (refusal 21 196) 197 leavesOfS workS
 unfolding theSegments theTree theDescent theLookup
 s-more b = record { counted = refl; tree = refl; fed = refl; descended = refl }
 
 -- No bytes: 20, place 0.
-pub no-bytes : Refuses [] 0 (refusal 20 0) 0 [] work0
+pub no-bytes : IsRefused [] 0 (refusal 20 0) 0 [] work0
 unfolding theTree theDescent theLookup
 no-bytes = record { counted = refl; tree = refl; fed = refl; descended = refl }
 
 -- T: 240 bytes, leaves at 120 and 180.
-pub t-accepted : Accepts T 240 (leafAt 120 5000 2000 100 ∷ leafAt 180 7000 3000 2100 ∷ []) (workT 5000)
+pub t-accepted : IsAccepted T 240 (leafAt 120 5000 2000 100 ∷ leafAt 180 7000 3000 2100 ∷ []) (workT 5000)
 unfolding theSegments theTree theDescent theLookup
 t-accepted = record { counted = refl; tree = refl; fed = refl; descended = refl }
 
 -- T with entry duration 4999: 12, place 64.
-pub t-4999 : Refuses (tWith 4999) 240 (refusal 12 64) 120 [] (workT 4999)
+pub t-4999 : IsRefused (tWith 4999) 240 (refusal 12 64) 120 [] (workT 4999)
 unfolding theSegments theTree theDescent theLookup
 t-4999 = record { counted = refl; tree = refl; fed = refl; descended = refl }
 
 -- S with second decode time 99: 18, place 168.
-pub s-99 : Refuses (sWith 99) 196 (refusal 18 168) 184 (firstOfS ∷ []) workS
+pub s-99 : IsRefused (sWith 99) 196 (refusal 18 168) 184 (firstOfS ∷ []) workS
 unfolding theSegments theTree theDescent theLookup
 s-99 = record { counted = refl; tree = refl; fed = refl; descended = refl }
 
 -- With 100: accepted.
-pub s-100 : Accepts (sWith 100) 196 (firstOfS ∷ leafAt 136 7000 3000 100 ∷ []) workS
+pub s-100 : IsAccepted (sWith 100) 196 (firstOfS ∷ leafAt 136 7000 3000 100 ∷ []) workS
 unfolding theSegments theTree theDescent theLookup
 s-100 = record { counted = refl; tree = refl; fed = refl; descended = refl }

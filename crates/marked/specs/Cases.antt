@@ -43,8 +43,8 @@ abbrev pub leafAt : ℕ → ℕ → ℕ → ℕ → Leaf
 leafAt position start duration time = record { position = position; size = 60; start = start; duration = duration; sap = sapWord; time = time }
 
 -- the leaf table with these leaves listed: its other numbers stay
-abbrev pub tableOf : List Leaf → List ℕ
-tableOf leaves = rowsOf leaves ++ drop (recordNumbers * length leaves) table0
+abbrev pub tableWith : List Leaf → List ℕ
+tableWith leaves = rowsOf leaves ++ drop (recordNumbers * length leaves) table0
 
 -- the work area once S's index was read, and once T's two were read, the top entry with its duration
 abbrev pub workS : List ℕ
@@ -59,14 +59,14 @@ abbrev pub acceptedState : ℕ → List Leaf → State
 acceptedState count leaves = state.Accepted count (length leaves) (record { id = 1; scale = 1000; start = 5000; durations = 5000 })
 
 abbrev pub accepted : ℕ → List Leaf → List ℕ → Out FinishAnswer
-accepted count leaves work = out (finishes.Listed (length leaves)) (acceptedState count leaves) work (tableOf leaves)
+accepted count leaves work = out (finishes.Listed (length leaves)) (acceptedState count leaves) work (tableWith leaves)
 
 abbrev pub refused : Refusal → ℕ → List Leaf → List ℕ → Out FinishAnswer
-refused x count leaves work = out (finishes.Refused x) (state.Refused count (length leaves) x) work (tableOf leaves)
+refused x count leaves work = out (finishes.Refused x) (state.Refused count (length leaves) x) work (tableWith leaves)
 
 -- These bytes, so many, are accepted: the tree gives these leaves; byte definition and descent answer how many they are, and leave the
 -- accepted state, this work area, and the leaves in the table.
-pub record Accepts (bytes : List ℕ) (count : ℕ) (leaves : List Leaf) (work : List ℕ) : Type 0 where
+pub record IsAccepted (bytes : List ℕ) (count : ℕ) (leaves : List Leaf) (work : List ℕ) : Type 0 where
   pub counted : length bytes ≡ count
   pub tree : byTree bytes ≡ some leaves
   pub fed : byBytes bytes ≡ accepted count leaves work
@@ -74,7 +74,7 @@ pub record Accepts (bytes : List ℕ) (count : ℕ) (leaves : List Leaf) (work :
 
 -- These bytes, so many, are refused after some were read: the tree gives none; byte definition and descent answer this refusal, and leave
 -- its state, this work area, and the leaves before it in the table.
-pub record Refuses (bytes : List ℕ) (count : ℕ) (x : Refusal) (read : ℕ) (leaves : List Leaf) (work : List ℕ) : Type 0 where
+pub record IsRefused (bytes : List ℕ) (count : ℕ) (x : Refusal) (read : ℕ) (leaves : List Leaf) (work : List ℕ) : Type 0 where
   pub counted : length bytes ≡ count
   pub tree : byTree bytes ≡ none
   pub fed : byBytes bytes ≡ refused x read leaves work
@@ -102,6 +102,6 @@ pub record LookedUp (s : State) (table : List ℕ) : Type 0 where
 -- S is accepted, and looked up with the state that is left: in the table that is left, and in any that starts with S's records, one of
 -- nothing but these twelve numbers too.
 pub record LookupInS : Type 0 where
-  pub accepts : Accepts S 196 leavesOfS workS
+  pub accepts : IsAccepted S 196 leavesOfS workS
   pub in-left : LookedUp (byBytes S .state) (byBytes S .table)
   pub in-any : (behind : List ℕ) → LookedUp (byBytes S .state) (rowsOf leavesOfS ++ behind)

@@ -1,1 +1,2 @@
 pub mod Summit
+pub mod Readable

@@ -24,8 +24,8 @@ use Rattle.demands.specs.Demands.{Accepts, BeginsWith, inParts}
 use Rattle.lookup.specs.Lookup.{lookupOf}
 use Rattle.demands.proofs.Exact.{accepts-exactly, found, refused-exactly, before, past}
 use Rattle.demands.proofs.CutAnywhere.{cut-anywhere, accepted-long, accepted-belongs}
-use Rattle.summit.specs.Contracts.{FeedCall, FinishCall, LookupCall, pieceOf, givenTo, leftBy, InOrder, Read, timeOf, tableOf}
-use Rattle.summit.specs.Reached.{Answered, Taken, Reached}
+use Rattle.summit.specs.Contracts.{FeedCall, FinishCall, LookupCall, pieceOf, givenTo, leftBy, InOrder, SegmentRead, timeAsked, tableLent}
+use Rattle.summit.specs.DemandsMet.{TimeAnswered, AcceptedRead, DemandsMet}
 
 -- A call of feed: what it answers and leaves, and that its piece holds bytes.
 fed-as : (c : FeedCall) → (out (c .result .answer) (c .result .state) (c .left .1 .1 .0) (c .left .1 .1 .1 .0) ≡ feedHeld (givenTo c) (pieceOf c)) × AllBytes (pieceOf c)
@@ -45,7 +45,7 @@ unfolding joined
 all-bytes [] = tt
 all-bytes (c ∷ cs) = bytes-both (pieceOf c) (joined (map pieceOf cs)) (fed-as c .1) (all-bytes cs)
 
-module _ (brand : ℕ) (parts : List (List ℕ)) (work table : List ℕ) (o : Out FinishAnswer) (r : Read brand parts work table o) where
+module _ (brand : ℕ) (parts : List (List ℕ)) (work table : List ℕ) (o : Out FinishAnswer) (r : SegmentRead brand parts work table o) where
   abbrev bytes : List ℕ
   bytes = joined parts
 
@@ -74,24 +74,24 @@ module _ (brand : ℕ) (parts : List (List ℕ)) (work table : List ℕ) (o : Ou
 
   -- a time looked up after it
   module _ (ls : List Leaf) (allowed : segment brand bytes ≡ some ls) (fits : length ls ≤ room table) (long : workBytes ≤ length work) (c : LookupCall) (same : c .given .0 ≡ o .state)
-      (begins : BeginsWith ls (tableOf c)) where
+      (begins : BeginsWith ls (tableLent c)) where
     -- the answer is that of the definition
-    looked : c .result ≡ lookupOf (wholeOf brand bytes work table .state) (tableOf c) (timeOf c)
+    looked : c .result ≡ lookupOf (wholeOf brand bytes work table .state) (tableLent c) (timeAsked c)
     looked =
         c .promised (lookup-once .asks-nothing (c .lifetimes) (c .given))
-        ∙ ap (λ (s : State). lookupOf s (tableOf c) (timeOf c)) (same ∙ ap (λ (z : Out FinishAnswer). z .state) (uncut long))
+        ∙ ap (λ (s : State). lookupOf s (tableLent c) (timeAsked c)) (same ∙ ap (λ (z : Out FinishAnswer). z .state) (uncut long))
 
-    answered : Answered brand bytes ls (timeOf c) (c .result)
+    answered : TimeAnswered brand bytes ls (timeAsked c) (c .result)
     answered =
-        subst (Answered brand bytes ls (timeOf c)) (sym looked)
+        subst (TimeAnswered brand bytes ls (timeAsked c)) (sym looked)
         (record {
-          found = found brand bytes work table read-bytes long ls allowed fits (tableOf c) begins (timeOf c);
-          refused-exactly = refused-exactly brand bytes work table read-bytes long ls allowed fits (tableOf c) begins (timeOf c);
-          before = before brand bytes work table read-bytes long ls allowed fits (tableOf c) begins (timeOf c);
-          past = past brand bytes work table read-bytes long ls allowed fits (tableOf c) begins (timeOf c);
+          found = found brand bytes work table read-bytes long ls allowed fits (tableLent c) begins (timeAsked c);
+          refused-exactly = refused-exactly brand bytes work table read-bytes long ls allowed fits (tableLent c) begins (timeAsked c);
+          before = before brand bytes work table read-bytes long ls allowed fits (tableLent c) begins (timeAsked c);
+          past = past brand bytes work table read-bytes long ls allowed fits (tableLent c) begins (timeAsked c);
         })
 
-  taken : (k : ℕ) → o .answer ≡ finishes.Listed k → Taken brand bytes table o
+  taken : (k : ℕ) → o .answer ≡ finishes.Listed k → AcceptedRead brand bytes table o
   taken k e =
       let listed : inParts brand parts work table .answer ≡ finishes.Listed k = sym (ap (λ (z : Out FinishAnswer). z .answer) read-is) ∙ e in
       let (ls, allowed, fits, accepts, belongs) = accepted-belongs brand parts work table read-bytes k listed in
@@ -106,5 +106,5 @@ module _ (brand : ℕ) (parts : List (List ℕ)) (work table : List ℕ) (o : Ou
       }
 
   -- The summit.
-  pub summit : Reached brand bytes work table o
+  pub summit : DemandsMet brand bytes work table o
   summit = record { exact = λ long. rw (uncut long) (accepts-exactly brand bytes work table read-bytes long); taken = taken; uncut = uncut }

@@ -62,7 +62,7 @@ InOrder before [] end = before ≡ end
 InOrder before (c ∷ cs) end = (givenTo c ≡ before) × InOrder (leftBy c) cs end
 
 -- A segment read: start, its parts fed in order with the two buffers, and finish, whatever the feeds answered; and what comes of it.
-pub record Read (brand : ℕ) (parts : List (List ℕ)) (work table : List ℕ) (o : Out FinishAnswer) : Type 0 where
+pub record SegmentRead (brand : ℕ) (parts : List (List ℕ)) (work table : List ℕ) (o : Out FinishAnswer) : Type 0 where
   pub start : StartCall
   pub wants : brandOf start ≡ brand
   pub feeds : List FeedCall
@@ -74,8 +74,8 @@ pub record Read (brand : ℕ) (parts : List (List ℕ)) (work table : List ℕ) 
   pub gives : out (finish .result .answer) (finish .result .state) (end .work) (end .table) ≡ o
 
 -- the time that is looked up, the state and the table that it is looked up with
-abbrev pub timeOf : LookupCall → ℕ
-timeOf c = c .given .1 .1 .0
+abbrev pub timeAsked : LookupCall → ℕ
+timeAsked c = c .given .1 .1 .0
 
-abbrev pub tableOf : LookupCall → List ℕ
-tableOf c = c .given .1 .0 .now
+abbrev pub tableLent : LookupCall → List ℕ
+tableLent c = c .given .1 .0 .now

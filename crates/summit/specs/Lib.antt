@@ -1,2 +1,2 @@
 pub mod Contracts
-pub mod Reached
+pub mod DemandsMet

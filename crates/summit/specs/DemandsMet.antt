@@ -21,11 +21,11 @@ use Rattle.lookup.specs.declared.LookupAnswer.the-variants as lookups
 use Rattle.lookup.specs.Rows.{recordOf}
 use Rattle.lookup.proofs.Listed.{NoLeafCovers}
 use Rattle.demands.specs.Demands.{Accepts, BeginsWith}
-use Rattle.summit.specs.Contracts.{LookupCall, timeOf, tableOf}
+use Rattle.summit.specs.Contracts.{LookupCall, timeAsked, tableLent}
 
 -- What a time gets: the leaf that covers it on the index's own time line; a refusal exactly when no leaf covers it, 23 before the list and
 -- 24 past it.
-pub record Answered (brand : ℕ) (bytes : List ℕ) (ls : List Leaf) (t : ℕ) (answer : LookupAnswer) : Type 0 where
+pub record TimeAnswered (brand : ℕ) (bytes : List ℕ) (ls : List Leaf) (t : ℕ) (answer : LookupAnswer) : Type 0 where
   pub found : (top : Opened) → topIndex brand bytes ≡ some top → top .index .time ≤ t → t < top .index .time + durations (top .index .entries) →
       (one : One (λ l. covers t l ≡ true) ls) × (answer ≡ lookups.Found (suc (one .place)) (recordOf (one .item)))
   pub refused-exactly : ((x : Refusal) × (answer ≡ lookups.Refused x)) ↔ NoLeafCovers ls t
@@ -34,18 +34,18 @@ pub record Answered (brand : ℕ) (bytes : List ℕ) (ls : List Leaf) (t : ℕ) 
 
 -- What is accepted: a segment of the tree whose leaves the table has room for, with the state and the list that it should leave; its bytes
 -- and its ticks belong; and each time looked up with that state and a table that begins with the list is answered.
-pub record Taken (brand : ℕ) (bytes table : List ℕ) (o : Out FinishAnswer) : Type 0 where
+pub record AcceptedRead (brand : ℕ) (bytes table : List ℕ) (o : Out FinishAnswer) : Type 0 where
   pub leaves : List Leaf
   pub allowed : segment brand bytes ≡ some leaves
   pub fits : length leaves ≤ room table
   pub accepts : Accepts brand bytes table leaves o
   pub belongs : Belongs brand bytes leaves
-  pub answered : (c : LookupCall) → c .given .0 ≡ o .state → BeginsWith leaves (tableOf c) → Answered brand bytes leaves (timeOf c) (c .result)
+  pub answered : (c : LookupCall) → c .given .0 ≡ o .state → BeginsWith leaves (tableLent c) → TimeAnswered brand bytes leaves (timeAsked c) (c .result)
 
-pub record Reached (brand : ℕ) (bytes work table : List ℕ) (o : Out FinishAnswer) : Type 0 where
+pub record DemandsMet (brand : ℕ) (bytes work table : List ℕ) (o : Out FinishAnswer) : Type 0 where
   -- Demand 2: "accepts exactly the segments that document 01 allows"; row 15 is for want of room, row 1 for want of a work area.
   pub exact : workBytes ≤ length work → ((k : ℕ) × (o .answer ≡ finishes.Listed k)) ↔ ((ls : List Leaf) × (segment brand bytes ≡ some ls) × (length ls ≤ room table))
   -- "lists exactly their leaves, and answers a time"; demand 3: "each byte of the material belongs .., each tick to one leaf"
-  pub taken : (k : ℕ) → o .answer ≡ finishes.Listed k → Taken brand bytes table o
+  pub taken : (k : ℕ) → o .answer ≡ finishes.Listed k → AcceptedRead brand bytes table o
   -- Demand 3: "what the definition gives for the uncut segment, refusal and place, list, work area and state"
   pub uncut : workBytes ≤ length work → o ≡ wholeOf brand bytes work table
