@@ -58,6 +58,10 @@ stageOf what n (go s f) = what n s
 stageOf what n (done top f) = n
 stageOf what n (bad x kept) = n
 
+-- What a state keeps of the top index: its reference ID, its timescale, its start and the sum of its durations.
+pub top-kept : (x : Index) → topOf x ≡ record { id = x .id; scale = x .scale; start = x .time; durations = x .durations }
+top-kept x = refl
+
 -- Rule 7: the first leaf starts at the top index's earliest presentation time.
 pub time-line-starts : (x : Index) (f : Flow) (n : ℕ) → nowOf (indexEnds x f n) ≡ x .time
 unfolding indexEnds stillOpen stillOne onward
