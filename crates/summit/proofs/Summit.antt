@@ -91,8 +91,8 @@ module _ (brand : ℕ) (parts : List (List ℕ)) (work table : List ℕ) (o : Ou
           past = past brand bytes work table read-bytes long ls allowed fits (tableLent c) begins (timeAsked c);
         })
 
-  taken : (k : ℕ) → o .answer ≡ finishes.Listed k → AcceptedRead brand bytes table o
-  taken k e =
+  accepted : (k : ℕ) → o .answer ≡ finishes.Listed k → AcceptedRead brand bytes table o
+  accepted k e =
       let listed : inParts brand parts work table .answer ≡ finishes.Listed k = sym (ap (λ (z : Out FinishAnswer). z .answer) read-is) ∙ e in
       let (ls, allowed, fits, accepts, belongs) = accepted-belongs brand parts work table read-bytes k listed in
       let long : workBytes ≤ length work = accepted-long brand parts work table read-bytes k listed in
@@ -107,4 +107,4 @@ module _ (brand : ℕ) (parts : List (List ℕ)) (work table : List ℕ) (o : Ou
 
   -- The summit.
   pub summit : DemandsMet brand bytes work table o
-  summit = record { exact = λ long. rw (uncut long) (accepts-exactly brand bytes work table read-bytes long); taken = taken; uncut = uncut }
+  summit = record { exact = λ long. rw (uncut long) (accepts-exactly brand bytes work table read-bytes long); accepted = accepted; uncut = uncut }

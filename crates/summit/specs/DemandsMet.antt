@@ -46,6 +46,6 @@ pub record DemandsMet (brand : ℕ) (bytes work table : List ℕ) (o : Out Finis
   -- Demand 2: "accepts exactly the segments that document 01 allows"; row 15 is for want of room, row 1 for want of a work area.
   pub exact : workBytes ≤ length work → ((k : ℕ) × (o .answer ≡ finishes.Listed k)) ↔ ((ls : List Leaf) × (segment brand bytes ≡ some ls) × (length ls ≤ room table))
   -- "lists exactly their leaves, and answers a time"; demand 3: "each byte of the material belongs .., each tick to one leaf"
-  pub taken : (k : ℕ) → o .answer ≡ finishes.Listed k → AcceptedRead brand bytes table o
+  pub accepted : (k : ℕ) → o .answer ≡ finishes.Listed k → AcceptedRead brand bytes table o
   -- Demand 3: "what the definition gives for the uncut segment, refusal and place, list, work area and state"
   pub uncut : workBytes ≤ length work → o ≡ wholeOf brand bytes work table
