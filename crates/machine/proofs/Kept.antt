@@ -14,6 +14,10 @@ Kept P Q W (go s f) = P s f
 Kept P Q W (done r f) = Q r f
 Kept P Q W (bad x l) = W x l
 
+-- the same, of a refusal nothing
+abbrev pub Unrefused : {S R F L : Type 0} → (S → F → Type 0) → (R → F → Type 0) → Sub S R F L → Type 0
+Unrefused P Q r = Kept P Q (λ x l. Unit {0}) r
+
 -- of a machine inside another: what it keeps gives what the other keeps
 module _ {S T R Q F L : Type 0} (P : S → F → Type 0) (D : R → F → Type 0) (W : Refusal → L → Type 0) (P' : T → F → Type 0) (D' : Q → F → Type 0) (W' : Refusal → L → Type 0) where
   pub lift-kept : (wrap : S → T) (out : R → F → Sub T Q F L) (worse : Refusal → L → Sub T Q F L) (r : Sub S R F L) →

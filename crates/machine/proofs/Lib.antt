@@ -5,6 +5,7 @@ pub mod Heads
 pub mod Lists
 pub mod Limits
 pub mod Kept
+pub mod Unrefused
 pub mod Left
 pub mod Lowest
 pub mod Readings

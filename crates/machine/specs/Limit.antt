@@ -1,14 +1,14 @@
--- A limit on all bytes: the byte after it is refused, whatever the machine would have made of it.
+-- A limit on all bytes: what the byte after it gives hangs on where the machine stands, and not on what it would have made of it.
 use Prim.Native.Nat.{ℕ, suc}
 use mathlib.Core.List.{List, [], _∷_, _++_}
 use lib.Dec.{eqb}
 use Rattle.basics.specs.Choose.{pick}
-use Rattle.machine.specs.Run.{Sub, bad, Res, okay, fail, cut}
+use Rattle.machine.specs.Run.{Sub, Res, okay, fail, cut}
 use Rattle.machine.specs.declared.Refusal.{Refusal}
 
-module _ {S R F L : Type 0} (left : F → L) (limit : ℕ) (x : Refusal) (step : S → F → ℕ → ℕ → Sub S R F L) where
+module _ {S R F L : Type 0} (limit : ℕ) (over : S → F → ℕ → Sub S R F L) (step : S → F → ℕ → ℕ → Sub S R F L) where
   unfoldable pub limited : S → F → ℕ → ℕ → Sub S R F L
-  limited s f n b = pick (eqb n limit) (bad x (left f)) (step s f n b)
+  limited s f n b = pick (eqb n limit) (over s f b) (step s f n b)
 
 -- what the bytes within the limit give, when those of the second list follow
 unfoldable pub beyond : {R F L : Type 0} → Refusal → Res R F L → List ℕ → Res R F L

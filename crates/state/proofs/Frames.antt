@@ -77,9 +77,10 @@ use Rattle.state.specs.Leaf.{skipped, seeing, beginMoof, stepMoofBody, m
 use Rattle.state.specs.Opening.{passed, indexed, spanOf, unlisted, brandsFrom, stypEnds, beginOpening, stepOpeningBody, openingBox, opening, wrapOpening, stepOpening}
 use Rattle.state.specs.Levels.{Entry, entryAt, entryPlace, inmost, depth, tookEntry, push, stillOpen, entryFaults, slotOf}
 use Rattle.state.specs.Stages.{gapKind, gapBoxes, wrapGap, stepGap, onward, follow, topOf, topLevel, indexEnds, InnerBody, innerKind, innerLevel, stepInner, leafRow, liftLeaf, stepInLeaf, stepSlot, stepEntry, stepStage}
-use Rattle.state.specs.Step.{World, reading, ended, refused, settle, step, run}
+use Rattle.state.specs.Places.{sidxByte, openingBodyByte, openingByte, stageByte, storedAt}
+use Rattle.state.specs.Step.{World, reading, ended, refused, settle, overLimit, leftOver, step, run}
 use Rattle.state.specs.Calls.{Out, out, flowOf, leftOf, fed, stateOf, workOf, tableOf, feedState, feedOf}
-use Rattle.state.specs.Named.{sidxByte, openingBodyByte, openingByte, stageByte, entryByte, storedAt, storedFrom, Spared, worldOf, leavesOf, leavesIn, Grown}
+use Rattle.state.specs.Named.{entryByte, storedFrom, Spared, worldOf, leavesOf, leavesIn, Grown}
 
 -- Inside a leaf nothing is stored and nothing listed.
 
@@ -383,9 +384,9 @@ settle-left n (done top f) = refl
 settle-left n (bad x kept) = refl
 
 limit-framed : (t : Bool) (n : ℕ) (s : Stage) (f : Flow) (b : ℕ) →
-    Framed (left f) (pick t none (stageByte s)) b (leftWorld (unless (shows t 3 limit) (λ x. refused (suc n) x (left f)) (settle (suc n) (stepStage s f n b))))
-unfolding pick shows unless leavesOf workOf tableOf
-limit-framed true n s f b = framed-none f b (left f) refl
+    Framed (left f) (stageByte s) b (leftWorld (unless (shows t 3 limit) (λ x. refused (suc n) (overLimit s f n x) (leftOver s f b)) (settle (suc n) (stepStage s f n b))))
+unfolding shows unless leavesOf workOf tableOf
+limit-framed true n s f b = framed-storing f (stageByte s) b (leftOver s f b) refl
 limit-framed false n s f b = rw (settle-left (suc n) (stepStage s f n b)) (stage-framed s f n b)
 
 step-framed : (w : World) (b : ℕ) → Framed (leftWorld w) (entryByte w) b (leftWorld (step w b))
@@ -472,10 +473,10 @@ settle-unlisted f n (done top g) h m x kept e = let z : _≡_ {A = ℕ} 0 1 = cc
 settle-unlisted f n (bad y l) h m x kept e = let same : l ≡ kept = cc in rw (← same) h
 
 limit-unlisted : (t : Bool) (n : ℕ) (s : Stage) (f : Flow) (b m : ℕ) (x : Refusal) (kept : Left) →
-    unless (shows t 3 limit) (λ y. refused (suc n) y (left f)) (settle (suc n) (stepStage s f n b)) ≡ refused m x kept →
+    unless (shows t 3 limit) (λ y. refused (suc n) (overLimit s f n y) (leftOver s f b)) (settle (suc n) (stepStage s f n b)) ≡ refused m x kept →
     (kept .leaves ≡ f .leaves) × (kept .table ≡ f .table)
 unfolding shows unless
-limit-unlisted true n s f b m x kept e = let same : left f ≡ kept = cc in rw (← same) (refl, refl)
+limit-unlisted true n s f b m x kept e = let same : leftOver s f b ≡ kept = cc in rw (← same) (refl, refl)
 limit-unlisted false n s f b m x kept e = settle-unlisted f (suc n) (stepStage s f n b) (stage-unlisted s f n b) m x kept e
 
 -- a byte that is refused lists no leaf and changes nothing of the leaf table

@@ -15,7 +15,9 @@ pub mod Edges
 pub mod Jump
 pub mod Numbers
 pub mod RangeNumbers
+pub mod Places
 pub mod Phases
 pub mod BoxLengths
 pub mod IndexRows
 pub mod NeverGiven
+pub mod WithinLimit

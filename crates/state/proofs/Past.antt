@@ -2,14 +2,11 @@
 use Prim.Native.Nat.{ℕ, _+_, _*_, _≤_, _<_}
 use mathlib.Core.Path.{_≡_, refl}
 use mathlib.Core.List.{List, [], _∷_, _++_}
-use mathlib.Core.Option.{some, none}
-use mathlib.Core.Bool.{Bool, true, false}
+use mathlib.Core.Option.{some}
 use native.Mathlib.Omega.{arith}
-use lib.Dec.{eqb}
 use lib.ListN.{length, getD}
-use Rattle.basics.specs.Choose.{pick}
 use Rattle.basics.specs.Bytes.{AllBytes}
-use Rattle.segment.specs.Constants.{limit, workBytes, levelBytes}
+use Rattle.segment.specs.Constants.{workBytes, levelBytes}
 use Rattle.state.specs.declared.Sidx.{Sidx}
 use Rattle.state.specs.declared.Sidx.the-variants as sidx
 use Rattle.state.specs.declared.OpeningBody.{OpeningBody}
@@ -25,7 +22,8 @@ use Rattle.state.specs.Levels.{depth}
 use Rattle.state.specs.Step.{World, reading, ended, refused, step}
 use Rattle.state.specs.Ranges.{Within, sidxBounds, openingBodyBounds, openingBounds, topBounds, levelsBounds, slotBounds, innerBounds, stageBounds, bounds, InRange}
 use Rattle.state.specs.Calls.{stateOf, workOf, tableOf, feedOf}
-use Rattle.state.specs.Named.{sidxByte, openingBodyByte, openingByte, stageByte, entryByte, Spared}
+use Rattle.state.specs.Places.{sidxByte, openingBodyByte, openingByte, stageByte}
+use Rattle.state.specs.Named.{entryByte, Spared}
 use Rattle.state.proofs.Frames.{work-length, feed-spared}
 use Rattle.state.proofs.Cuts.{back-state, feed-inside}
 use Rattle.state.proofs.Kept.{feed-cases}
@@ -73,12 +71,8 @@ stage-place (stage.Inner top ls slot (inners.Body span s)) now i h e =
 
 -- from inside the ranges a byte is stored within the four levels
 pub place-within : (w : World) (i : ℕ) → InRange (stateOf w) → entryByte w ≡ some i → i < workBytes
-unfolding bounds stateOf entryByte pick
-place-within (reading n s f) i h e = at (eqb n limit) e
-  where
-    at : (t : Bool) → pick t none (stageByte s) ≡ some i → i < workBytes
-    at true p = let z : _≡_ {A = ℕ} 0 1 = cc in absurd (omega arith)
-    at false p = stage-place s (f .now) i (h .1 .1) p
+unfolding bounds stateOf entryByte
+place-within (reading n s f) i h e = stage-place s (f .now) i (h .1 .1) e
 place-within (ended n top kept) i h e = let z : _≡_ {A = ℕ} 0 1 = cc in absurd (omega arith)
 place-within (refused n x kept) i h e = let z : _≡_ {A = ℕ} 0 1 = cc in absurd (omega arith)
 

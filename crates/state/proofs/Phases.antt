@@ -19,22 +19,32 @@ use Rattle.state.specs.declared.Span.{Span}
 use Rattle.state.specs.declared.Slot.{Slot}
 use Rattle.state.specs.declared.Level.{Level}
 use Rattle.state.specs.declared.LeafSo.{LeafSo}
+use Rattle.state.specs.declared.Levels.{Levels}
 use Rattle.state.specs.declared.Stage.{Stage}
+use Rattle.state.specs.declared.Stage.the-variants as stage
 use Rattle.state.specs.declared.Top.{Top}
 use Rattle.state.specs.declared.Track.{Track}
 use Rattle.state.specs.declared.Track.the-variants as track
 use Rattle.state.specs.declared.StypPart.the-variants as styps
 use Rattle.state.specs.declared.OpeningBody.the-variants as openings
+use Rattle.state.specs.declared.OpeningBoxes.the-variants as boxes
+use Rattle.state.specs.declared.InnerBox.the-variants as inners
+use Rattle.state.specs.declared.Draft.{Draft}
+use Rattle.state.specs.declared.Sums.{Sums}
+use Rattle.state.specs.declared.EntryPart.{EntryPart}
+use Rattle.state.specs.declared.Sidx.{Sidx}
+use Rattle.state.specs.declared.Sidx.the-variants as indexes
 use Rattle.state.specs.Flow.{Flow, Left, left, room}
 use Rattle.state.specs.Rows.{is, topLengths, openingFaults, gapFaults, noRoom, leafFaults, innerFaults, fresh, headedTrack, trafFaults}
 use Rattle.state.specs.Opening.{passed, brandsFrom, stypEnds}
-use Rattle.state.specs.Sidx.{Place, scaleFaults}
+use Rattle.state.specs.Sidx.{Place, scaleFaults, keepByte}
 use Rattle.state.specs.Sidx as Index
 use Rattle.state.specs.Traf as Trafs
 use Rattle.state.specs.Traf.{timed, fallFaults, lacking}
 use Rattle.state.specs.Leaf.{leafLacks}
-use Rattle.state.specs.Levels.{Entry, altered}
-use Rattle.state.specs.Step.{reading, ended, refused, step}
+use Rattle.state.specs.Levels.{Entry, entryAt, entryPlace, inmost, depth, altered}
+use Rattle.state.specs.Places.{sidxByte, openingBodyByte, openingByte, stageByte, storedAt}
+use Rattle.state.specs.Step.{reading, ended, refused, entryShows, overLimit, step}
 
 -- Row 9: an `mdat` in a leaf shows 9 exactly when no `moof` came before it; a `sidx` always does, and a `moof` never.
 pub mdat-in-leaf : (pos : ℕ) (hadMoof : Bool) (h : Header) (f : Flow) → h .kind ≡ mdat → has 9 (leafFaults pos hadMoof h f) ≡ not hadMoof
@@ -232,15 +242,41 @@ leaf-lacks-at slot so kept =
     let unseen = not (so .seen .any) in
     both-at (slot .pos) (shows full 15 (slot .pos)) (shows unseen 19 (slot .pos)) (shows-at full 15 (slot .pos)) (shows-at unseen 19 (slot .pos))
 
--- Rows 21 and 3: a byte after the material gives 21 at its place; byte 268,435,457 of the segment gives 3, wherever the reading stands.
+-- Rows 21 and 3: a byte after the material gives 21 at its place; byte 268,435,457 of the segment gives 3, after the material and
+-- wherever the reading stands but before an entry. It counts as read, an entry's byte is stored, and the list and the leaf table stay.
 pub after-material : (n : ℕ) (top : Top) (kept : Left) (b : ℕ) → n ≢ 268435456 → step (ended n top kept) b ≡ refused (suc n) (refusal 21 n) kept
 unfolding step shows lowest
 after-material n top kept b within = rw (ne-eqb n 268435456 within)
 
-pub past-the-limit : (s : Stage) (f : Flow) (top : Top) (kept : Left) (b : ℕ) →
-    (step (reading 268435456 s f) b ≡ refused 268435457 (refusal 3 268435456) (left f)) × (step (ended 268435456 top kept) b ≡ refused 268435457 (refusal 3 268435456) kept)
-unfolding step shows unless lowest pick
-past-the-limit s f top kept b = (refl, refl)
+pub past-after-material : (top : Top) (kept : Left) (b : ℕ) → step (ended 268435456 top kept) b ≡ refused 268435457 (refusal 3 268435456) kept
+unfolding step shows lowest pick
+past-after-material top kept b = refl
+
+pub past-the-limit : (s : Stage) (f : Flow) (b : ℕ) → ((top : Top) (ls : Levels) → s ≢ stage.Entry top ls) →
+    step (reading 268435456 s f) b ≡ refused 268435457 (refusal 3 268435456) (record { leaves = f .leaves; work = storedAt (f .work) (stageByte s) b; table = f .table })
+unfolding step shows unless lowest overLimit entryShows
+past-the-limit (stage.Opening brand s) f b elsewhere = refl
+past-the-limit (stage.Gap top l end s) f b elsewhere = refl
+past-the-limit (stage.Entry top ls) f b elsewhere = absurd (elsewhere top ls refl)
+past-the-limit (stage.Leaf top ls slot s) f b elsewhere = refl
+past-the-limit (stage.Inner top ls slot s) f b elsewhere = refl
+
+-- Inside an entry of the top index, and of an inner one: 3, and the byte is stored at its place.
+pub past-in-entry : (brand : ℕ) (branded : Bool) (span : Span) (e : EntryPart) (d : Draft) (s : Sums) (more acc : ℕ) (top : Top) (ls : Levels) (slot : Slot) (f : Flow) (b : ℕ) →
+    let x : Sidx = indexes.Entry e d s more acc in
+    (step (reading 268435456 (stage.Opening brand (boxes.Body branded (openings.Index span x))) f) b
+    ≡ refused 268435457 (refusal 3 268435456) (left (keepByte Index.topmost e s f more b)))
+    × (step (reading 268435456 (stage.Inner top ls slot (inners.Body span x)) f) b
+    ≡ refused 268435457 (refusal 3 268435456) (left (keepByte (Index.under top slot (depth ls)) e s f more b)))
+unfolding step shows unless lowest overLimit entryShows stageByte openingByte openingBodyByte sidxByte storedAt
+past-in-entry brand branded span e d s more acc top ls slot f b = (refl, refl)
+
+-- Before an entry: 12 at that byte and no other number where the stored entry was altered, else 3; nothing is stored.
+pub past-before-entry : (top : Top) (ls : Levels) (f : Flow) (b : ℕ) → let was : Bool = altered (inmost ls) (entryAt (f .work) (entryPlace ls)) (f .now) 268435456 in
+    (was ≡ true → step (reading 268435456 (stage.Entry top ls) f) b ≡ refused 268435457 (refusal 12 268435456) (left f))
+    × (was ≡ false → step (reading 268435456 (stage.Entry top ls) f) b ≡ refused 268435457 (refusal 3 268435456) (left f))
+unfolding step shows unless lowest overLimit entryShows stageByte storedAt
+past-before-entry top ls f b = (λ e. rw e, λ e. rw e)
 
 -- a refusal is kept, whatever byte comes
 pub refusal-kept : (n : ℕ) (x : Refusal) (kept : Left) (b : ℕ) → step (refused n x kept) b ≡ refused n x kept

@@ -13,23 +13,37 @@ use Rattle.basics.proofs.Picks.{pick-holds, pick-no, pick-if}
 use Rattle.segment.specs.Constants.{limit, workBytes}
 use Rattle.machine.specs.Faults.{lowest}
 use Rattle.machine.specs.Run.{Sub, go, done, bad}
-use Rattle.machine.proofs.Kept.{Each, each-lowest, unless-holds}
+use Rattle.machine.specs.declared.Refusal.{Refusal}
+use Rattle.machine.proofs.Kept.{Each, each-none, each-lowest, unless-holds}
 use Rattle.machine.proofs.Faults.{shows-none}
 use Rattle.state.specs.declared.Stage.{Stage}
+use Rattle.state.specs.declared.Stage.the-variants as stage
 use Rattle.state.specs.declared.Top.{Top}
 use Rattle.state.specs.declared.State.{State}
 use Rattle.state.specs.declared.State.the-variants as state
 use Rattle.state.specs.declared.FeedAnswer.{FeedAnswer}
 use Rattle.state.specs.Flow.{Flow, Left}
-use Rattle.state.specs.Step.{World, reading, ended, refused, settle, pastLimit, pastMaterial, step, run}
+use Rattle.state.specs.Step.{World, reading, ended, refused, settle, pastLimit, entryShows, overLimit, pastMaterial, step, run}
 use Rattle.state.specs.Ranges.{headBounds, openingBounds, stageBounds, bounds, inRange, InRange}
 use Rattle.state.specs.Calls.{Out, stateOf, flowOf, leftOf, startOf, feedState, feedOf, Finished, finishState, finishOf}
 use Rattle.state.proofs.RangeKept.{Numbered, shown}
 use Rattle.state.proofs.RangeStages.{StageKept, stage-kept}
 
--- the row of the limit, where it is shown
+-- the rows at the limit, where they are shown
 limit-fault : (n : ℕ) → Each Numbered (pastLimit n)
 limit-fault n = shown (eqb n limit) 3 limit (omega arith)
+
+entry-fault : (s : Stage) (f : Flow) (n : ℕ) → Each Numbered (entryShows s f n)
+unfolding entryShows
+entry-fault (stage.Opening brand s) f n = each-none Numbered
+entry-fault (stage.Gap top l end s) f n = each-none Numbered
+entry-fault (stage.Entry top ls) f n = shown _ 12 n (omega arith)
+entry-fault (stage.Leaf top ls slot s) f n = each-none Numbered
+entry-fault (stage.Inner top ls slot s) f n = each-none Numbered
+
+over-fault : (s : Stage) (f : Flow) (n : ℕ) (x : Refusal) → Numbered x → Numbered (overLimit s f n x)
+unfolding overLimit
+over-fault s f n x h = unless-holds Numbered Numbered (entryShows s f n) (λ y. y) x (entry-fault s f n) (λ y k. k) (λ e. h)
 
 settle-kept : (n : ℕ) (r : Sub Stage Top Flow Left) → n ≤ limit → StageKept r → InRange (stateOf (settle n r))
 unfolding settle stateOf bounds
@@ -41,7 +55,8 @@ settle-kept n (bad x kept) h k = (omega arith, (k .1, (k .0 .0, (k .0 .1, tt))))
 pub step-kept : (w : World) (b : ℕ) → b < 256 → InRange (stateOf w) → InRange (stateOf (step w b))
 unfolding step stateOf bounds
 step-kept (reading n s f) b hb g =
-    unless-holds Numbered (λ w. InRange (stateOf w)) (pastLimit n) _ _ (limit-fault n) (λ x h. (omega (arith, g .0), (g .1 .0, (h .0, (h .1, tt)))))
+    unless-holds Numbered (λ w. InRange (stateOf w)) (pastLimit n) _ _ (limit-fault n)
+    (λ x h. let k = over-fault s f n x h in (omega (arith, g .0), (g .1 .0, (k .0, (k .1, tt)))))
     (λ e. let z = eqb-false n limit (shows-none (eqb n limit) 3 limit e) in
     settle-kept (suc n) _ (omega (arith, g .0)) (stage-kept s f n b (g .0) hb (g .1 .1, g .1 .0)))
 step-kept (ended n top kept) b hb g =

@@ -6,6 +6,7 @@ pub mod Traf
 pub mod Leaf
 pub mod Levels
 pub mod Stages
+pub mod Places
 pub mod Step
 pub mod Ranges
 pub mod Numbers
