@@ -57,12 +57,12 @@ module _ (top : Top) (ls : Levels) (f : Flow) (n b : ℕ) where
   slot-leaf inner slot e = rw e
 
 -- what an entry read back comes to, by whether it was altered
-chosen : (t i inner : Bool) (s slot : Slot) → pick t read.Altered (read.Stands i s) ≡ read.Stands inner slot → (t ≡ false) × (i ≡ inner) × (s ≡ slot)
+pub chosen : (t i inner : Bool) (s slot : Slot) → pick t read.Altered (read.Stands i s) ≡ read.Stands inner slot → (t ≡ false) × (i ≡ inner) × (s ≡ slot)
 unfolding pick
 chosen true i inner s slot e = let y : _≡_ {A = ℕ} 0 1 = cc in absurd (omega arith)
 chosen false i inner s slot e = (refl, cc, cc)
 
-refused : (t i : Bool) (s : Slot) → pick t read.Altered (read.Stands i s) ≡ read.Altered → t ≡ true
+pub refused : (t i : Bool) (s : Slot) → pick t read.Altered (read.Stands i s) ≡ read.Altered → t ≡ true
 unfolding pick
 refused true i s e = refl
 refused false i s e = let y : _≡_ {A = ℕ} 0 1 = cc in absurd (omega arith)

@@ -1,5 +1,8 @@
 // One byte, whatever the state.
+use levels::EntryRead;
+use levels::read_back;
 use machine::Refusal;
+use numbers::stage_number;
 use onward::Running;
 use onward::StageStep;
 use stage::stage_byte;
@@ -12,23 +15,79 @@ ghost use mathlib.Core.Path.{_≡_};
 ghost use Prim.Native.Nat.{ℕ, _≤_};
 ghost use lib.ListN.{length};
 ghost use Rattle.segment.specs.Constants.{limit, workBytes};
-ghost use Rattle.state.specs.Calls.{out, feedState};
-ghost use Rattle.state.specs.Ranges.{InRange};
+ghost use Rattle.machine.specs.Faults.{refusal};
+ghost use Rattle.state.specs.Places.{stageByte, storedAt};
+ghost use Rattle.state.specs.Step.{overLimit};
+ghost use Rattle.state.specs.Calls.{out, flowOf, feedState};
+ghost use Rattle.state.specs.Ranges.{Within, stageBounds, InRange};
 ghost use Rattle.state.specs.declared.State.the-variants as state;
 ghost use Rattle.step.specs.Answers.{answered, stepped};
 
-// Row 3: the byte past the limit.
-fn past_limit(leaves: u64) -> State
-    ensures { λ r. ⌜ r ≡ state.Refused 268435457 leaves (record { number = 3; place = 268435456 }) ⌝ }
+// Row 3.
+fn over_limit() -> Refusal
+    ensures { λ r. ⌜ r ≡ refusal 3 limit ⌝ }
+{
+    Refusal {
+        number: 3,
+        place: LIMIT,
+    }
+}
+
+// The state after the byte past the limit, which counts as read.
+fn past_limit(leaves: u64, x: Refusal) -> State
+    ensures { λ r. ⌜ r ≡ state.Refused 268435457 leaves x ⌝ }
 {
     State::Refused {
         count: LIMIT + 1,
         leaves,
-        refusal: Refusal {
-            number: 3,
-            place: LIMIT,
-        },
+        refusal: x,
     }
+}
+
+// What the byte past the limit gives: row 3, but before an entry that was altered row 12, and no other number there.
+fn limit_row(s: Stage, at: u64, work: &[u8]) -> Refusal
+    requires { ⌜ (workBytes ≤ length (now work)) × Within (stageBounds s at) ⌝ }
+    ensures { λ r. ⌜ ((leaves last : ℕ) (table : List ℕ) → r ≡ overLimit s (flowOf leaves at last (now (work .entry)) table) limit (refusal 3 limit)) ⌝ }
+{
+    let over = over_limit();
+    let Stage::Entry { top: _, levels } = s else {
+        return over;
+    };
+    let read = read_back(work, levels, at, LIMIT);
+    let EntryRead::Stands(_, _) = read else {
+        return Refusal {
+            number: 12,
+            place: LIMIT,
+        };
+    };
+    over
+}
+
+// An entry byte is stored at its place, and no other byte is.
+fn store_byte(s: Stage, at: u64, b: u8, work: &mut [u8])
+    requires { ⌜ (workBytes ≤ length (now work)) × Within (stageBounds s at) ⌝ }
+    ensures { λ _. ⌜ now (work .exit) ≡ storedAt (now (work .entry)) (stageByte s) b ⌝ }
+{
+    let x = stage_number(s, at);
+    if !x.stored {
+        return;
+    }
+    let i = x.place as usize;
+    work[i] = b;
+}
+
+// The byte past the limit, in the segment.
+fn limit_byte(r: Running, s: Stage, b: u8, work: &mut [u8]) -> State
+    requires { ⌜ (workBytes ≤ length (now work)) × Within (stageBounds s (r .now)) ⌝ }
+    ensures { λ q. ⌜
+        ((table : List ℕ) →
+        out (answered q) q (now (work .exit)) table
+        ≡ feedState (state.Reading limit (r .leaves) (r .now) (r .last) s) (b ∷ []) (now (work .entry)) table)
+        ⌝ }
+{
+    let x = limit_row(s, r.now, work);
+    store_byte(s, r.now, b, work);
+    past_limit(r.leaves, x)
 }
 
 // The state that a stage's step at byte `n` leads to.
@@ -64,7 +123,7 @@ fn reading_byte(n: u64, r: Running, s: Stage, b: u8, work: &mut [u8], table: &mu
     ensures { λ q. ⌜ out (answered q) q (now (work .exit)) (now (table .exit)) ≡ feedState (state.Reading n (r .leaves) (r .now) (r .last) s) (b ∷ []) (now (work .entry)) (now (table .entry)) ⌝ }
 {
     if n == LIMIT {
-        return past_limit(r.leaves);
+        return limit_byte(r, s, b, work);
     }
     let q = stage_byte(s, r, n, b, work, table);
     state_after(n, r.leaves, q)
@@ -76,7 +135,7 @@ fn byte_after(n: u64, leaves: u64, top: Top, b: u8) -> State
     ensures { λ q. ⌜ ((work table : List ℕ) → out (answered q) q work table ≡ feedState (state.Ended n leaves top) (b ∷ []) work table) ⌝ }
 {
     if n == LIMIT {
-        return past_limit(leaves);
+        return past_limit(leaves, over_limit());
     }
     State::Refused {
         count: n + 1,

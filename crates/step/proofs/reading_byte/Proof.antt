@@ -1,45 +1,66 @@
-use mathlib.Core.Path.{ap, _∙_}
+-- A byte in the segment: within the limit its stage's step, and past it what the limit has it give.
 use native.Mathlib.Omega.{arith}
-use Rattle.state.specs.declared.State.{State}
-use Rattle.step.proofs.Laws.{left-with, reading-one, reading-past, reading-count, reading-leaves, reading-stage}
+use Rattle.step.proofs.Laws.{reading-one, reading-limit, reading-count, reading-leaves, reading-stage}
 use borrow.Author.Needs.{needs}
 use Rattle.step.proofs.reading_byte.Statement.{statement}
 use Rattle.step.proofs.reading_byte.Tie as tie
 
-past-limit-requires : tie.Need-past-limit-requires
-past-limit-requires c κs = search needs
-
-returns : tie.Need-returns
-returns c =
-    ap (λ (q : State). left-with q (c .before .before .before .before .args .work .now) (c .before .before .before .before .args .table .now)) (c .past-limit .ensures)
-    ∙ reading-past (c .before .before .before .before .args .n) (c .before .before .before .before .args .r .leaves) (c .before .before .before .before .args .r .now) (c .before .before .before .before .args .r .last) (c .before .before .before .before .args .b) (c .before .before .before .before .args .s) (c .before .before .before .before .args .work .now) (c .before .before .before .before .args .table .now) (c .before .if1 .taken)
-
-stage-byte-requires : tie.Need-stage-byte-requires
-stage-byte-requires c κs =
-    (omega (arith, c .before .before .if1 .left, reading-count (c .before .before .before .before .before .args .n) (c .before .before .before .before .before .args .r .leaves) (c .before .before .before .before .before .args .r .now) (c .before .before .before .before .before .args .r .last) (c .before .before .before .before .before .args .s) (c .before .before .before .before .before .pre .1)), c .before .before .before .before .before .pre .0, reading-leaves (c .before .before .before .before .before .args .n) (c .before .before .before .before .before .args .r .leaves) (c .before .before .before .before .before .args .r .now) (c .before .before .before .before .before .args .r .last) (c .before .before .before .before .before .args .s) (c .before .before .before .before .before .pre .1), reading-stage (c .before .before .before .before .before .args .n) (c .before .before .before .before .before .args .r .leaves) (c .before .before .before .before .before .args .r .now) (c .before .before .before .before .before .args .r .last) (c .before .before .before .before .before .args .s) (c .before .before .before .before .before .pre .1))
-
-state-after-requires : tie.Need-state-after-requires
-state-after-requires c κs = reading-count (c .before .before .before .before .before .before .before .before .before .before .args .n) (c .before .before .before .before .before .before .before .before .before .before .args .r .leaves) (c .before .before .before .before .before .before .before .before .before .before .args .r .now) (c .before .before .before .before .before .before .before .before .before .before .args .r .last) (c .before .before .before .before .before .before .before .before .before .before .args .s) (c .before .before .before .before .before .before .before .before .before .before .pre .1)
+limit-byte-requires : tie.Need-limit-byte-requires
+limit-byte-requires c κs =
+    let d = c .before .before .before .before in
+    let a = d .args in
+    (d .pre .0, reading-stage (a .n) (a .r .leaves) (a .r .now) (a .r .last) (a .s) (d .pre .1))
 
 same-length : tie.Need-same-length
 same-length c = search needs
 
+returns : tie.Need-returns
+returns c =
+    let a = c .before .before .before .before .before .before .before .args in
+    let at-limit = c .before .before .before .before .if1 .taken in
+    reading-limit (a .n) (a .r .leaves) (a .r .now) (a .r .last) (a .b) (a .s) (a .work .now) (a .table .now) _ at-limit (c .before .before .limit-byte .ensures (a .table .now))
+
+stage-byte-requires : tie.Need-stage-byte-requires
+stage-byte-requires c κs =
+    let d = c .before .before .before .before .before in
+    let a = d .args in
+    let count = reading-count (a .n) (a .r .leaves) (a .r .now) (a .r .last) (a .s) (d .pre .1) in (
+      omega (arith, c .before .before .if1 .left, count),
+      d .pre .0,
+      reading-leaves (a .n) (a .r .leaves) (a .r .now) (a .r .last) (a .s) (d .pre .1),
+      reading-stage (a .n) (a .r .leaves) (a .r .now) (a .r .last) (a .s) (d .pre .1),
+    )
+
+state-after-requires : tie.Need-state-after-requires
+state-after-requires c κs =
+    let d = c .before .before .before .before .before .before .before .before .before .before in
+    let a = d .args in
+    reading-count (a .n) (a .r .leaves) (a .r .now) (a .r .last) (a .s) (d .pre .1)
+
 same-length-2 : tie.Need-same-length-2
 same-length-2 c = search needs
 
+same-length-3 : tie.Need-same-length-3
+same-length-3 c = search needs
+
 returns-2 : tie.Need-returns-2
 returns-2 c =
-    reading-one (c .before .before .before .before .before .before .before .before .before .before .before .args .n) (c .before .before .before .before .before .before .before .before .before .before .before .args .r .leaves) (c .before .before .before .before .before .before .before .before .before .before .before .args .r .now) (c .before .before .before .before .before .before .before .before .before .before .before .args .r .last) (c .before .before .before .before .before .before .before .before .before .before .before .args .b) (c .before .before .before .before .before .before .before .before .before .before .before .args .s) _ _ (c .before .before .before .before .before .stage-byte .result) _ _ (c .state-after .result)
-    (omega (arith, c .before .before .before .before .before .before .before .before .if1 .left, reading-count (c .before .before .before .before .before .before .before .before .before .before .before .args .n) (c .before .before .before .before .before .before .before .before .before .before .before .args .r .leaves) (c .before .before .before .before .before .before .before .before .before .before .before .args .r .now) (c .before .before .before .before .before .before .before .before .before .before .before .args .r .last) (c .before .before .before .before .before .before .before .before .before .before .before .args .s) (c .before .before .before .before .before .before .before .before .before .before .before .pre .1))) (c .before .before .before .before .before .stage-byte .ensures) (c .state-after .ensures)
+    let d = c .before .before .before .before .before .before .before .before .before .before .before in
+    let a = d .args in
+    let q = c .before .before .before .before .before .stage-byte in
+    let count = reading-count (a .n) (a .r .leaves) (a .r .now) (a .r .last) (a .s) (d .pre .1) in
+    reading-one (a .n) (a .r .leaves) (a .r .now) (a .r .last) (a .b) (a .s) _ _ (q .result) _ _ (c .state-after .result)
+    (omega (arith, c .before .before .before .before .before .before .before .before .if1 .left, count)) (q .ensures) (c .state-after .ensures)
 
 pub reading-byte-spec : {M : Type 1} → statement M
 reading-byte-spec =
     tie.close
     (tie.spec
-    past-limit-requires
+    limit-byte-requires
+    same-length
     returns
     stage-byte-requires
     state-after-requires
-    same-length
     same-length-2
+    same-length-3
     returns-2)
