@@ -5,7 +5,7 @@ use mathlib.Core.List.{List, [], _∷_}
 use mathlib.Core.Bool.{Bool, true, false}
 use mathlib.Core.Logic.{_⊎_, inl, inr}
 use native.Mathlib.Omega.{arith}
-use borrow.Author.Tests.{lt-ltb, le-ltb}
+use borrow.Author.Tests.{lt-ltb, le-ltb, eqb-true}
 use lib.Dec.{eqb, ltb}
 use lib.ListN.{length, take, drop}
 use Rattle.basics.specs.Choose.{pick}
@@ -27,13 +27,14 @@ use Rattle.state.specs.declared.FinishAnswer.{FinishAnswer}
 use Rattle.state.specs.declared.FinishAnswer.the-variants as finishes
 use Rattle.state.specs.Flow.{Flow, Left, left}
 use Rattle.state.specs.Stages.{stepStage}
-use Rattle.state.specs.Step.{World, reading, ended, refused, settle, pastLimit, pastMaterial, step, run, stage0, flow0}
+use Rattle.state.specs.Step.{World, reading, ended, refused, settle, pastLimit, overLimit, leftOver, pastMaterial, step, run, stage0, flow0}
 use Rattle.state.specs.Ranges.{inRange}
 use Rattle.state.specs.Calls.{Out, out, stateOf, workOf, tableOf, answerOf, fed, startOf, feedState, feedOf, finishState, finishAfter, wholeOf}
 use Rattle.state.proofs.RangeTests.{in-range}
 use Rattle.state.proofs.Cuts.{feed-short}
 use Rattle.state.proofs.Kept.{finish-inside}
 use Rattle.state.proofs.Ranges.{start-in-range, run-kept}
+use Rattle.state.proofs.WithinLimit.{InStage, stage-within, limit-alone, start-within}
 use Rattle.descent.specs.Whole.{outcome, readD, wholeD}
 use Rattle.demands.proofs.SegmentRun.{segment-run}
 
@@ -53,20 +54,33 @@ unfolding run step
 run-refused n x kept [] = refl
 run-refused n x kept (b ∷ bs) = run-refused n x kept bs
 
--- one byte is the machine's step under the limit
-step-limited : (s : Stage) (f : Flow) (n b : ℕ) → step (reading n s f) b ≡ settle (suc n) (limited left limit over stepStage s f n b)
+-- the byte past the limit, wherever the reading stands; and the machine's step under the limit
+abbrev past : Stage → Flow → ℕ → Sub Stage Top Flow Left
+past s f b = bad (overLimit s f limit over) (leftOver s f b)
+
+abbrev bounded : Stage → Flow → ℕ → ℕ → Sub Stage Top Flow Left
+bounded = limited limit past stepStage
+
+-- one byte is that step
+step-limited : (s : Stage) (f : Flow) (n b : ℕ) → step (reading n s f) b ≡ settle (suc n) (bounded s f n b)
 unfolding step limited settle unless pick shows lowest
-step-limited s f n b = at (eqb n limit)
+step-limited s f n b = at (eqb n limit) refl
   where
-    at : (t : Bool) → unless (shows t 3 limit) (λ x. refused (suc n) x (left f)) (settle (suc n) (stepStage s f n b)) ≡ settle (suc n) (pick t (bad over (left f)) (stepStage s f n b))
-    at true = refl
-    at false = refl
+    at : (t : Bool) → eqb n limit ≡ t →
+        unless (shows t 3 limit) (λ x. refused (suc n) (overLimit s f n x) (leftOver s f b)) (settle (suc n) (stepStage s f n b))
+        ≡ settle (suc n) (pick t (past s f b) (stepStage s f n b))
+    at true e = ap (λ (m : ℕ). refused (suc n) (overLimit s f m over) (leftOver s f b)) (eqb-true n limit e)
+    at false e = refl
+
+-- from the start on it gives 3 alone, and stores nothing
+past-alone : (s : Stage) (f : Flow) (b : ℕ) → InStage limit s f → past s f b ≡ bad over (left f)
+past-alone s f b h = let (number, kept) = limit-alone s f b over h in rw (number, kept)
 
 abbrev C : ℕ → List ℕ → Sub Stage Top Flow Left → Res Top Flow Left
-C n bs r = cont left (limited left limit over stepStage) n bs r
+C n bs r = cont left bounded n bs r
 
 -- the fold and its finish are the run under the limit
-settled : (bs : List ℕ) → ((n : ℕ) (s : Stage) (f : Flow) → outcomeOf (run (reading n s f) bs) ≡ outcome (runs left (limited left limit over stepStage) s f n bs)) →
+settled : (bs : List ℕ) → ((n : ℕ) (s : Stage) (f : Flow) → outcomeOf (run (reading n s f) bs) ≡ outcome (runs left bounded s f n bs)) →
     (n : ℕ) (r : Sub Stage Top Flow Left) → outcomeOf (run (settle n r) bs) ≡ outcome (C n bs r)
 unfolding settle contBy outcome outcomeOf run step
 settled bs h n (go s f) = h n s f
@@ -74,10 +88,10 @@ settled [] h n (done top f) = refl
 settled (b ∷ bs) h n (done top f) = ap outcomeOf (run-refused (suc n) (lowest (pastMaterial n) (pastLimit n)) (left f) bs)
 settled bs h n (bad x kept) = ap outcomeOf (run-refused n x kept bs)
 
-fold-run : (bs : List ℕ) (n : ℕ) (s : Stage) (f : Flow) → outcomeOf (run (reading n s f) bs) ≡ outcome (runs left (limited left limit over stepStage) s f n bs)
+fold-run : (bs : List ℕ) (n : ℕ) (s : Stage) (f : Flow) → outcomeOf (run (reading n s f) bs) ≡ outcome (runs left bounded s f n bs)
 unfolding run runs outcomeOf outcome
 fold-run [] n s f = refl
-fold-run (b ∷ bs) n s f = ap (λ w. outcomeOf (run w bs)) (step-limited s f n b) ∙ settled bs (fold-run bs) (suc n) (limited left limit over stepStage s f n b)
+fold-run (b ∷ bs) n s f = ap (λ w. outcomeOf (run w bs)) (step-limited s f n b) ∙ settled bs (fold-run bs) (suc n) (bounded s f n b)
 
 -- finish after a feed, of a reading inside its ranges
 finish-fed : (w : World) → inRange (stateOf w) ≡ true → finishAfter (fed w) (answerOf w) ≡ outcomeOf w
@@ -102,7 +116,7 @@ module _ (brand : ℕ) (bytes work table : List ℕ) where
   read-whole =
       fold-run bytes 0 (stage0 brand) (flow0 work table)
       ∙ ap outcome
-      (limit-run left limit over stepStage bytes (stage0 brand) (flow0 work table) 0 (omega arith)
+      (limit-run left limit past stepStage over InStage stage-within past-alone bytes (stage0 brand) (flow0 work table) 0 (omega arith) (start-within brand (flow0 work table))
       ∙ ap (λ (r : Res Top Flow Left). beyond over r (drop limit bytes)) (sym (segment-run brand (flow0 work table) 0 (take limit bytes))))
 
   -- Law D.
