@@ -8,6 +8,7 @@
 // w at,hex: bytes are put into the work area
 // n at,number: a number is put into the leaf table
 // S, M, R, A, E with numbers: a state (crate `states`)
+// c n: the state of a reading has n for its count of bytes read
 use data::buffers::FILL_BYTE;
 use data::buffers::FILL_NUMBER;
 use data::buffers::lent_bytes;

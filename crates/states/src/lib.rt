@@ -93,6 +93,27 @@ fn at_entry(word: &[u8]) -> State {
     }
 }
 
+// The state that there is, if it is one of a reading, with another count of bytes read.
+fn counted(s: State, count: u64) -> State {
+    let State::Reading {
+        count: _,
+        leaves,
+        now,
+        last,
+        stage,
+    } = s
+    else {
+        return s;
+    };
+    State::Reading {
+        count,
+        leaves,
+        now,
+        last,
+        stage,
+    }
+}
+
 // A state, by the letter of a word and the numbers that it gives; where no state has the letter, the one that there is.
 pub fn state_of(letter: u8, word: &[u8], s: State) -> State {
     match letter {
@@ -101,6 +122,7 @@ pub fn state_of(letter: u8, word: &[u8], s: State) -> State {
         b'R' => refused(word),
         b'A' => accepted(word),
         b'E' => at_entry(word),
+        b'c' => counted(s, nth(word, 0)),
         _ => s,
     }
 }
