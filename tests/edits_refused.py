@@ -1,0 +1,157 @@
+#!/usr/bin/env python3
+"""Each wrong answer listed in docs/PROMISES.md is refused in the function or the theorem that its row names.
+
+It reads the tables of docs/PROMISES.md that begin with a column "edit", and the logs that `rt ci` or `rt must-fail` left.
+Words given are crates: only the edits of these are looked at, and all others need no log.
+
+A row is `crate`: `edit`, `edit` | wrong answers | refused in. In the last column each edit has its part, parted by `;`, or one part
+holds for all. A part names functions of the crate, or a module and its theorems; each of them has to be refused by itself:
+
+- a function: an error in its own proof file, or `search` that does not close one of its needs;
+- a theorem: an error at it in its module.
+
+An error that says only that something else was not admitted does not count, and neither does a call of what is not proved.
+An edit that breaks the shape of the code or of a definition fails, whatever else its log shows.
+"""
+import pathlib
+import re
+import sys
+
+ROOT = pathlib.Path(__file__).resolve().parent.parent
+NAMES = re.compile(r"`[^`]+`(, `[^`]+`)*")
+ERROR = re.compile(r"^(.*?):\d+:\d+: error: (?:`([^`]+)`: )?(.*)$")
+FUNCTION = re.compile(r"^fn (\S+): (.*)$")
+FOLLOWS = re.compile(r"^`[^`]+` (was not admitted|cannot be unfolded because it was not admitted)")
+UNCLOSED = "`search` does not close"
+# What a log says where an operation or a branch is gone or new, or a name, a case or a type of a definition does not stand.
+BROKEN = ("Need-", "is not in scope", "has no field", "that can be named from here", "has no clause")
+
+
+def names(text):
+    if not NAMES.fullmatch(text.strip()):
+        raise ValueError(f"not a list of names: {text.strip()}")
+    return re.findall(r"`([^`]+)`", text)
+
+
+def rows():
+    """Each row of a table whose first column is "edit", as its cells."""
+    inside = False
+    for line in (ROOT / "docs/PROMISES.md").read_text(encoding="utf-8").splitlines():
+        if not line.startswith("|"):
+            inside = False
+            continue
+        cells = [cell.strip() for cell in line.strip().strip("|").split("|")]
+        if cells[0] == "edit":
+            inside = True
+        elif inside and not cells[0].startswith("---"):
+            yield cells
+
+
+def wanted(cells):
+    """(crate, edit, the names that refuse it), for each edit of a row."""
+    first, answers, last = cells
+    where, _, edits = first.partition(":")
+    crate, edits, parts = names(where)[0], names(edits), last.split(";")
+    if len(answers.split(";")) not in (1, len(edits)):
+        raise ValueError(f"{len(edits)} edits, and {len(answers.split(';'))} wrong answers: {first}")
+    if len(parts) not in (1, len(edits)):
+        raise ValueError(f"{len(edits)} edits, and {len(parts)} parts of \"refused in\": {first}")
+    if len(parts) == 1:
+        parts = parts * len(edits)
+    return [(crate, edit, names(part)) for edit, part in zip(edits, parts)]
+
+
+class Log:
+    """What the log of an edit says: errors as (file, declaration), functions by name, and signs of a broken shape."""
+
+    def __init__(self, crate, edit):
+        self.crate, self.errors, self.functions, self.broken = crate, set(), {}, []
+        here = f"target/must-fail/{crate}/{edit}/"
+        for line in (ROOT / here / ".log").read_text(encoding="utf-8").splitlines():
+            function, error = FUNCTION.match(line), ERROR.match(line)
+            if function:
+                self.functions[function[1]] = function[2]
+                if function[2].startswith("no proof: ") and UNCLOSED not in function[2]:
+                    self.broken.append(line[:200])
+            if error:
+                self.read(error[1].rpartition(here)[2], error[2], error[3])
+
+    def read(self, file, declaration, said):
+        if FOLLOWS.match(said):
+            return
+        if declaration is None or not file.startswith("proofs/") or any(sign in said for sign in BROKEN):
+            self.broken.append(f"{file}: {said[:160]}")
+        self.errors.add((file, declaration))
+
+    def function(self, name):
+        """Whether a function's own proof is refused. `mod::name` says in which module of the crate it stands."""
+        found = [f for f in self.functions if f"::{f}".endswith(f"::{name}")]
+        if len(found) != 1:
+            return False
+        said = self.functions[found[0]]
+        *path, last = found[0].split("::")[1:]
+        own = [f for f, _ in self.errors if f.split("/")[1:-2] == path and last in f.split("/")[-2].split("+")]
+        return said != "proved" and (UNCLOSED in said or bool(own))
+
+    def theorem(self, module, name):
+        return any(f.endswith(f"/{module}.antt") and d == name for f, d in self.errors)
+
+    def missing(self, wanted_names):
+        """The names that are not refused by themselves."""
+        module, left = None, []
+        for name in wanted_names:
+            if name[0].isupper():
+                module = name
+            elif not (self.theorem(module, name) if module else self.function(name)):
+                left.append(f"{module}, {name}" if module else name)
+        return left
+
+
+def told(crate, edit):
+    """How many wrong answers an edit has: the comments in it."""
+    text = (ROOT / "crates" / crate / "must-fail" / f"{edit}.edit").read_text(encoding="utf-8")
+    return sum(line.startswith("#") for line in text.splitlines())
+
+
+def check(crate, edit, lists):
+    """What is wrong with an edit, given the names that each of its rows has."""
+    if told(crate, edit) != len(lists):
+        yield f"it has {told(crate, edit)} wrong answers, and docs/PROMISES.md lists {len(lists)}"
+    out = ROOT / "target/must-fail" / crate / f"{edit}.res"
+    if not out.exists() or out.read_text().strip() != "refused":
+        yield "there is no log of its refusal: run `rt ci` or `rt must-fail`"
+        return
+    log = Log(crate, edit)
+    for sign in log.broken:
+        yield f"it breaks the shape: {sign}"
+    for part in lists:
+        for name in log.missing(part):
+            yield f"no refusal of its own in {name}"
+    for name in {name for k, part in enumerate(lists) for name in part if any(name in other for other in lists[:k])}:
+        yield f"two of its wrong answers are refused in {name}, and its log does not tell them apart"
+
+
+def main(crates):
+    faults, listed = [], {}
+    for cells in rows():
+        try:
+            for crate, edit, part in wanted(cells):
+                listed.setdefault((crate, edit), []).append(part)
+        except ValueError as fault:
+            faults.append(f"docs/PROMISES.md: {fault}")
+    there = {(f.parts[-3], f.stem) for f in (ROOT / "crates").glob("*/must-fail/*.edit")}
+    faults += [f"{crate}/{edit}: docs/PROMISES.md does not list it" for crate, edit in sorted(there - set(listed))]
+    faults += [f"{crate}/{edit}: docs/PROMISES.md lists it, and there is no such edit" for crate, edit in sorted(set(listed) - there)]
+    looked = [key for key in sorted(there & set(listed)) if not crates or key[0] in crates]
+    for crate, edit in looked:
+        faults += [f"{crate}/{edit}: {fault}" for fault in check(crate, edit, listed[crate, edit])]
+    for fault in faults:
+        print(f"edits_refused: {fault}")
+    if not faults:
+        count = sum(len(listed[key]) for key in looked)
+        print(f"edits_refused: {len(looked)} edits, {count} wrong answers, each refused where docs/PROMISES.md says")
+    return 1 if faults else 0
+
+
+if __name__ == "__main__":
+    sys.exit(main(sys.argv[1:]))
