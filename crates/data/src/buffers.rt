@@ -1,5 +1,10 @@
 // What is lent for a reading: a work area and a leaf table, which hold the same before each.
 use crate::text::part;
+ghost use mathlib.Core.Path.{_≡_};
+ghost use mathlib.Core.Bool.{true};
+ghost use mathlib.Core.Logic.{_↔_};
+ghost use lib.ListN.{length, take};
+ghost use Rattle.data.specs.Parts.{levelPart, SameLevels};
 
 const LEVEL_BYTES: usize = 12288;
 
@@ -63,7 +68,10 @@ pub fn fill_numbers(table: &mut [u64], n: usize) {
     }
 }
 
-pub fn same_bytes(a: &[u8], b: &[u8]) -> bool {
+// Whether two parts hold the same bytes.
+pub fn same_bytes(a: &[u8], b: &[u8]) -> bool
+    ensures { λ r. ⌜ (r ≡ true) ↔ (now (a .entry) ≡ now (b .entry)) ⌝ }
+{
     let mut i = 0;
     while i < a.len() && i < b.len() {
         if a[i] != b[i] {
@@ -74,8 +82,10 @@ pub fn same_bytes(a: &[u8], b: &[u8]) -> bool {
     a.len() == b.len()
 }
 
-// The first n numbers of two tables, and how many each has.
-pub fn same_numbers(a: &[u64], b: &[u64], n: usize) -> bool {
+// Whether two tables are equally long and their first n numbers are the same.
+pub fn same_numbers(a: &[u64], b: &[u64], n: usize) -> bool
+    ensures { λ r. ⌜ (r ≡ true) ↔ (length (now (a .entry)) ≡ length (now (b .entry))) × (take n (now (a .entry)) ≡ take n (now (b .entry))) ⌝ }
+{
     let mut i = 0;
     while i < a.len() && i < b.len() && i < n {
         if a[i] != b[i] {
@@ -87,7 +97,9 @@ pub fn same_numbers(a: &[u64], b: &[u64], n: usize) -> bool {
 }
 
 // The first n bytes of one level's part of the work area.
-fn level_part(work: &[u8], level: usize, n: usize) -> &[u8] {
+fn level_part(work: &[u8], level: usize, n: usize) -> &[u8]
+    ensures { λ r. ⌜ now r ≡ levelPart (now (work .entry)) level n ⌝ }
+{
     if level < 4 {
         let from = LEVEL_BYTES * level;
         return part(part(work, from, from + LEVEL_BYTES), 0, n);
@@ -95,12 +107,16 @@ fn level_part(work: &[u8], level: usize, n: usize) -> &[u8] {
     part(work, 0, 0)
 }
 
-fn same_level(a: &[u8], b: &[u8], level: usize, n: usize) -> bool {
+fn same_level(a: &[u8], b: &[u8], level: usize, n: usize) -> bool
+    ensures { λ r. ⌜ (r ≡ true) ↔ (levelPart (now (a .entry)) level n ≡ levelPart (now (b .entry)) level n) ⌝ }
+{
     same_bytes(level_part(a, level, n), level_part(b, level, n))
 }
 
-// The first n bytes of each level's part of the work area.
-pub fn same_levels(a: &[u8], b: &[u8], n: usize) -> bool {
+// Whether the first n bytes of each level's part of two work areas are the same.
+pub fn same_levels(a: &[u8], b: &[u8], n: usize) -> bool
+    ensures { λ r. ⌜ (r ≡ true) ↔ SameLevels (now (a .entry)) (now (b .entry)) n ⌝ }
+{
     same_level(a, b, 0, n)
         && same_level(a, b, 1, n)
         && same_level(a, b, 2, n)

@@ -1,5 +1,7 @@
 // Text in lent bytes: parts of it, its fields, numbers and hex digits.
 ghost use Prim.Native.Nat.{_≤_};
+ghost use mathlib.Core.Path.{_≡_};
+ghost use Rattle.data.specs.Parts.{partOf};
 
 const TAB: u8 = 9;
 
@@ -10,7 +12,9 @@ const SPACE: u8 = 32;
 const COMMA: u8 = 44;
 
 // The bytes from one place up to another; none where that is no part.
-pub fn part(text: &[u8], from: usize, to: usize) -> &[u8] {
+pub fn part(text: &[u8], from: usize, to: usize) -> &[u8]
+    ensures { λ r. ⌜ now r ≡ partOf (now (text .entry)) from to ⌝ }
+{
     if to <= text.len() {
         if from <= to {
             return &text[from..to];

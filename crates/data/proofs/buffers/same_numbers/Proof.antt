@@ -1,11 +1,17 @@
-use Prim.Native.Nat.{_-_}
+-- `data::buffers::same_numbers` meets its contract: up to the place at hand the two are alike, and at an end all that is asked for is.
+use mathlib.Core.Logic.{inl, inr, ⊎-elim}
+use native.Mathlib.Omega.{arith}
+use borrow.Author.Tests.{ltb-true, ltb-false}
+use Rattle.data.proofs.Alike.{never, alike-more, alike-first, unlike-first}
+use Prim.Native.Nat.{_-_, _≤_, _<_}
 use borrow.Author.Needs.{needs}
-use lib.ListN.{length}
+use mathlib.Core.Path.{_≡_}
+use lib.ListN.{length, take}
 use Rattle.data.proofs.buffers.same_numbers.Statement.{statement}
 use Rattle.data.proofs.buffers.same_numbers.Tie as tie
 
 abbrev Inv-loop : tie.InvT-loop
-Inv-loop a b n i₀ i = Unit {0}
+Inv-loop a b n i₀ i = (i ≤ length a) × (i ≤ length b) × (i ≤ n) × (take i a ≡ take i b)
 
 abbrev μ-loop : tie.MeasureT-loop
 μ-loop a b n i₀ i = length a - i
@@ -26,7 +32,11 @@ shared-slice-read-if3-2 : tie.Need-shared-slice-read-if3-2 Inv-loop μ-loop
 shared-slice-read-if3-2 c = search needs
 
 returns : tie.Need-returns Inv-loop μ-loop
-returns c = search needs
+returns c =
+    let i = c .before .before .before .before .before .before .loop .i in
+    let s = c .before .before .before .before .before .before .before .args in
+    let h : i < s .n = omega (arith, ltb-true) in
+    never (unlike-first (s .a .now) (s .b .now) (s .n) i h (c .if3 .taken))
 
 add-i : tie.Need-add-i Inv-loop μ-loop
 add-i c = search needs
@@ -35,10 +45,25 @@ loop-less : tie.Need-loop-less Inv-loop μ-loop
 loop-less c = search needs
 
 loop-again : tie.Need-loop-again Inv-loop μ-loop
-loop-again c = search needs
+loop-again c =
+    let i = c .before .before .before .before .before .before .loop .i in
+    let inv = c .before .before .before .before .before .before .loop .inv in
+    let s = c .before .before .before .before .before .before .before .args in
+    let h : i < length (s .a .now) = omega (arith, ltb-true) in
+    let k : i < length (s .b .now) = omega (arith, ltb-true) in
+    let m : i < s .n = omega (arith, ltb-true) in
+    (omega arith, omega arith, omega arith, alike-more (s .a .now) (s .b .now) i h k (c .if3 .left) (inv .3))
 
 returns-2 : tie.Need-returns-2 Inv-loop μ-loop
-returns-2 c = search needs
+returns-2 c =
+    let i = c .before .loop .i in
+    let inv = c .before .loop .inv in
+    let s = c .before .before .args in
+    alike-first (s .a .now) (s .b .now) i (inv .3) (s .n) (inv .2)
+    (⊎-elim
+    (λ w. inl (ltb-false _ _ (w .2 .left)))
+    (λ w. inr (⊎-elim (λ v. inl (ltb-false _ _ (v .1 .left))) (λ v. inr (v .left)) w))
+    (c .loop-test .came))
 
 pub same-numbers-spec : {M : Type 1} → statement M
 same-numbers-spec =

@@ -1,0 +1,57 @@
+-- `data::buffers::same_levels` meets its contract: each test decides of its level, and joined they decide of all four.
+use Prim.Native.Nat.{ℕ}
+use mathlib.Core.Path.{_≡_, refl, _∙_}
+use mathlib.Core.Bool.{true}
+use mathlib.Core.Logic.{_↔_, ⊎-elim}
+use Rattle.data.specs.Parts.{levelPart, SameLevels}
+use Rattle.data.proofs.Alike.{both-taken, both-left, on-each-level}
+use borrow.Author.Needs.{needs}
+use Rattle.data.proofs.buffers.same_levels.Statement.{statement}
+use Rattle.data.proofs.buffers.same_levels.Tie as tie
+
+same-level-requires : tie.Need-same-level-requires
+same-level-requires c κs = search needs
+
+same-level-requires-2 : tie.Need-same-level-requires-2
+same-level-requires-2 c κs = search needs
+
+same-level-requires-3 : tie.Need-same-level-requires-3
+same-level-requires-3 c κs = search needs
+
+same-level-requires-4 : tie.Need-same-level-requires-4
+same-level-requires-4 c κs = search needs
+
+returns : tie.Need-returns
+unfolding SameLevels
+returns c =
+    let s = c .before .before .before .before .before .before .before .args in
+    let P : ℕ → Type 0 = λ level. levelPart (s .a .now) level (s .n) ≡ levelPart (s .b .now) level (s .n) in
+    let one = c .before .before .before .before .same-level .ensures in
+    let two : (c .before .before .before .if1 .if2 ≡ true) ↔ (P 0 × P 1) =
+    ⊎-elim (λ w. both-taken _ _ _ one (w .1 .ensures) (w .0 .taken) (w .2)) (λ w. both-left _ _ one (w .0 .left) (w .1 ∙ w .0 .left)) (c .before .before .before .if1 .came) in
+    let three : (c .before .before .if2 .if3 ≡ true) ↔ ((P 0 × P 1) × P 2) =
+    ⊎-elim (λ w. both-taken _ _ _ two (w .1 .ensures) (w .0 .taken) (w .2)) (λ w. both-left _ _ two (w .0 .left) (w .1 ∙ w .0 .left)) (c .before .before .if2 .came) in
+    on-each-level P _ (both-taken _ _ _ three (c .same-level4 .ensures) (c .before .if3 .taken) refl)
+
+returns-2 : tie.Need-returns-2
+unfolding SameLevels
+returns-2 c =
+    let s = c .before .before .before .before .before .before .args in
+    let P : ℕ → Type 0 = λ level. levelPart (s .a .now) level (s .n) ≡ levelPart (s .b .now) level (s .n) in
+    let one = c .before .before .before .same-level .ensures in
+    let two : (c .before .before .if1 .if2 ≡ true) ↔ (P 0 × P 1) =
+    ⊎-elim (λ w. both-taken _ _ _ one (w .1 .ensures) (w .0 .taken) (w .2)) (λ w. both-left _ _ one (w .0 .left) (w .1 ∙ w .0 .left)) (c .before .before .if1 .came) in
+    let three : (c .before .if2 .if3 ≡ true) ↔ ((P 0 × P 1) × P 2) =
+    ⊎-elim (λ w. both-taken _ _ _ two (w .1 .ensures) (w .0 .taken) (w .2)) (λ w. both-left _ _ two (w .0 .left) (w .1 ∙ w .0 .left)) (c .before .if2 .came) in
+    on-each-level P _ (both-left _ _ three (c .if3 .left) (c .if3 .left))
+
+pub same-levels-spec : {M : Type 1} → statement M
+same-levels-spec =
+    tie.close
+    (tie.spec
+    same-level-requires
+    same-level-requires-2
+    same-level-requires-3
+    same-level-requires-4
+    returns
+    returns-2)
