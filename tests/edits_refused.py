@@ -71,7 +71,7 @@ class Log:
             function, error = FUNCTION.match(line), ERROR.match(line)
             if function:
                 self.functions[function[1]] = function[2]
-                if function[2].startswith("no proof: ") and UNCLOSED not in function[2]:
+                if function[2].startswith("no proof: ") and UNCLOSED not in function[2] and "; it calls `" not in function[2]:
                     self.broken.append(line[:200])
             if error:
                 self.read(error[1].rpartition(here)[2], error[2], error[3])
