@@ -1,5 +1,5 @@
 // Text in lent bytes: parts of it, its fields, numbers and hex digits.
-ghost use Prim.Native.Nat.{_≤_};
+ghost use Prim.Native.Nat.{min};
 ghost use mathlib.Core.Path.{_≡_};
 ghost use Rattle.data.specs.Parts.{partOf};
 
@@ -125,8 +125,9 @@ fn byte(high: u8, low: u8) -> u8 {
     digit(high) % 16 * 16 + digit(low) % 16
 }
 
+// The lesser of two numbers.
 pub fn least(a: usize, b: usize) -> usize
-    ensures { λ r. ⌜ (r ≤ a) × (r ≤ b) ⌝ }
+    ensures { λ r. ⌜ r ≡ min a b ⌝ }
 {
     if a < b {
         return a;
