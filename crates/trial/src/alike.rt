@@ -4,6 +4,12 @@ use state::FeedAnswer;
 use state::FinishAnswer;
 use state::State;
 use state::Top;
+ghost use mathlib.Core.Path.{_≡_};
+ghost use mathlib.Core.Bool.{true};
+ghost use mathlib.Core.Logic.{_↔_};
+ghost use Rattle.state.specs.declared.FeedAnswer.the-variants as feeds;
+ghost use Rattle.state.specs.declared.FinishAnswer.the-variants as finishes;
+ghost use Rattle.trial.specs.Ends.{refusedAfter, overBy, answerAt};
 
 // The number of a finish before the material's end.
 const UNFINISHED: u64 = 20;
@@ -94,15 +100,21 @@ pub fn no_end() -> End {
     }
 }
 
-fn same_refusal(a: Refusal, b: Refusal) -> bool {
+fn same_refusal(a: Refusal, b: Refusal) -> bool
+    ensures { λ r. ⌜ (r ≡ true) ↔ (a ≡ b) ⌝ }
+{
     a.number == b.number && a.place == b.place
 }
 
-fn same_top(a: Top, b: Top) -> bool {
+fn same_top(a: Top, b: Top) -> bool
+    ensures { λ r. ⌜ (r ≡ true) ↔ (a ≡ b) ⌝ }
+{
     a.id == b.id && a.scale == b.scale && a.start == b.start && a.durations == b.durations
 }
 
-fn same_left(a: Left, b: Left) -> bool {
+fn same_left(a: Left, b: Left) -> bool
+    ensures { λ r. ⌜ (r ≡ true) ↔ (a ≡ b) ⌝ }
+{
     let x = a.refusal;
     let y = b.refusal;
     let p = a.top;
@@ -111,28 +123,36 @@ fn same_left(a: Left, b: Left) -> bool {
     counts && same_refusal(x, y) && same_top(p, q)
 }
 
-fn same_answer(a: FinishAnswer, b: FinishAnswer) -> bool {
+fn same_answer(a: FinishAnswer, b: FinishAnswer) -> bool
+    ensures { λ r. ⌜ (r ≡ true) ↔ (a ≡ b) ⌝ }
+{
     match a {
         FinishAnswer::Listed(m) => listed(b, m),
         FinishAnswer::Refused(r) => declined(b, r),
     }
 }
 
-fn listed(answer: FinishAnswer, leaves: u64) -> bool {
+fn listed(answer: FinishAnswer, leaves: u64) -> bool
+    ensures { λ r. ⌜ (r ≡ true) ↔ (answer ≡ finishes.Listed leaves) ⌝ }
+{
     match answer {
         FinishAnswer::Listed(n) => n == leaves,
         FinishAnswer::Refused(_) => false,
     }
 }
 
-fn declined(answer: FinishAnswer, r: Refusal) -> bool {
+fn declined(answer: FinishAnswer, refusal: Refusal) -> bool
+    ensures { λ r. ⌜ (r ≡ true) ↔ (answer ≡ finishes.Refused refusal) ⌝ }
+{
     match answer {
         FinishAnswer::Listed(_) => false,
-        FinishAnswer::Refused(x) => same_refusal(x, r),
+        FinishAnswer::Refused(x) => same_refusal(x, refusal),
     }
 }
 
-pub fn same_end(a: End, b: End) -> bool {
+pub fn same_end(a: End, b: End) -> bool
+    ensures { λ r. ⌜ (r ≡ true) ↔ (a ≡ b) ⌝ }
+{
     let x = a.answer;
     let y = b.answer;
     let s = a.left;
@@ -141,7 +161,9 @@ pub fn same_end(a: End, b: End) -> bool {
 }
 
 // How many bytes were read when feed refused a segment that ends so, the byte at fault among them; none where it did not.
-pub fn refused_after(end: End) -> u64 {
+pub fn refused_after(end: End) -> u64
+    ensures { λ r. ⌜ r ≡ refusedAfter end ⌝ }
+{
     let left = end.left;
     let x = left.refusal;
     if left.outcome != REFUSED || x.number == UNFINISHED {
@@ -151,19 +173,25 @@ pub fn refused_after(end: End) -> u64 {
 }
 
 // Whether feed has to refuse the k-th byte of a segment that ends so, or has done so before.
-fn over_by(k: u64, end: End) -> bool {
+fn over_by(k: u64, end: End) -> bool
+    ensures { λ r. ⌜ r ≡ overBy k end ⌝ }
+{
     let after = refused_after(end);
     0 < after && after <= k
 }
 
-fn fed_refused(answer: FeedAnswer, r: Refusal) -> bool {
+fn fed_refused(answer: FeedAnswer, refusal: Refusal) -> bool
+    ensures { λ r. ⌜ (r ≡ true) ↔ (answer ≡ feeds.Refused refusal) ⌝ }
+{
     match answer {
         FeedAnswer::Read(_) => false,
-        FeedAnswer::Refused(x) => same_refusal(x, r),
+        FeedAnswer::Refused(x) => same_refusal(x, refusal),
     }
 }
 
-fn fed_read(answer: FeedAnswer, k: u64) -> bool {
+fn fed_read(answer: FeedAnswer, k: u64) -> bool
+    ensures { λ r. ⌜ (r ≡ true) ↔ (answer ≡ feeds.Read k) ⌝ }
+{
     match answer {
         FeedAnswer::Read(count) => count == k,
         FeedAnswer::Refused(_) => false,
@@ -171,7 +199,9 @@ fn fed_read(answer: FeedAnswer, k: u64) -> bool {
 }
 
 // Whether feed answers what it has to once k bytes were fed: the refusal, if the byte at fault was among them, or the count.
-pub fn answers_at(k: u64, answer: FeedAnswer, end: End) -> bool {
+pub fn answers_at(k: u64, answer: FeedAnswer, end: End) -> bool
+    ensures { λ r. ⌜ (r ≡ true) ↔ (answer ≡ answerAt k end) ⌝ }
+{
     if over_by(k, end) {
         let left = end.left;
         return fed_refused(answer, left.refusal);
