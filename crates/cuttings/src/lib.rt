@@ -22,6 +22,9 @@ use trial::alike::same_end;
 use trial::prints::print;
 use trial::prints::print_listing;
 use trial::prints::print_number;
+ghost use Prim.Native.Nat.{_+_, min};
+ghost use mathlib.Core.Path.{_≡_};
+ghost use mathlib.Core.Bool.{_&&_};
 
 // The longest segment that is cut at every place.
 const SHORT: usize = 512;
@@ -39,12 +42,16 @@ struct Cutting {
     other: usize,
 }
 
-fn both(a: bool, b: bool) -> bool {
+fn both(a: bool, b: bool) -> bool
+    ensures { λ r. ⌜ r ≡ (a && b) ⌝ }
+{
     a && b
 }
 
-// Where a piece ends that starts at a place.
-fn piece_end(from: usize, length: usize, n: usize) -> usize {
+// Where a piece of so many bytes ends that starts at a place, in a segment of n bytes.
+fn piece_end(from: usize, length: usize, n: usize) -> usize
+    ensures { λ r. ⌜ r ≡ min (from + length) n ⌝ }
+{
     if from <= n {
         return from + least(length, n - from);
     }
