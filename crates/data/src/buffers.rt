@@ -83,17 +83,17 @@ pub fn same_bytes(a: &[u8], b: &[u8]) -> bool
 }
 
 // Whether two tables are equally long and their first n numbers are the same.
-pub fn same_numbers(a: &[u64], b: &[u64], n: usize) -> bool
-    ensures { λ r. ⌜ (r ≡ true) ↔ (length (now (a .entry)) ≡ length (now (b .entry))) × (take n (now (a .entry)) ≡ take n (now (b .entry))) ⌝ }
+pub fn same_numbers(v: &[u64], w: &[u64], n: usize) -> bool
+    ensures { λ r. ⌜ (r ≡ true) ↔ (length (now (v .entry)) ≡ length (now (w .entry))) × (take n (now (v .entry)) ≡ take n (now (w .entry))) ⌝ }
 {
     let mut i = 0;
-    while i < a.len() && i < b.len() && i < n {
-        if a[i] != b[i] {
+    while i < v.len() && i < w.len() && i < n {
+        if v[i] != w[i] {
             return false;
         }
         i += 1;
     }
-    a.len() == b.len()
+    v.len() == w.len()
 }
 
 // The first n bytes of one level's part of the work area.

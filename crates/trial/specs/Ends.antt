@@ -1,11 +1,37 @@
--- What feed has to answer on the way to an end.
+-- The end of a reading as numbers, and what feed has to answer on the way to it.
 use Prim.Native.Nat.{ℕ}
 use mathlib.Core.Bool.{Bool, true, false, not, _&&_}
 use lib.Dec.{eqb, ltb, leb}
 use Rattle.machine.specs.declared.Refusal.{Refusal}
 use Rattle.state.specs.declared.FeedAnswer.{FeedAnswer}
 use Rattle.state.specs.declared.FeedAnswer.the-variants as feeds
+use Rattle.state.specs.declared.FinishAnswer.{FinishAnswer}
+use Rattle.state.specs.declared.State.{State}
+use Rattle.state.specs.declared.State.the-variants as state
+use Rattle.state.specs.declared.Top.{Top}
 use Rattle.trial.specs.declared.alike.End.{End}
+use Rattle.trial.specs.declared.alike.Left.{Left}
+
+-- what a state holds: its outcome (0 it goes on, 1 the material is over, 2 refused, 3 accepted), counts, refusal and top
+abbrev pub leftAs : ℕ → ℕ → ℕ → Refusal → Top → Left
+leftAs outcome count leaves refusal top = record { outcome = outcome; count = count; leaves = leaves; refusal = refusal; top = top }
+
+abbrev pub noRefusal : Refusal
+noRefusal = record { number = 0; place = 0 }
+
+abbrev pub noTop : Top
+noTop = record { id = 0; scale = 0; start = 0; durations = 0 }
+
+-- a state as numbers; of a reading that goes on, the stage and its times are left out
+unfoldable pub leftBy : State → Left
+leftBy (state.Reading count leaves now last stage) = leftAs 0 count leaves noRefusal noTop
+leftBy (state.Ended count leaves top) = leftAs 1 count leaves noRefusal top
+leftBy (state.Refused count leaves refusal) = leftAs 2 count leaves refusal noTop
+leftBy (state.Accepted count leaves top) = leftAs 3 count leaves noRefusal top
+
+-- what finish answered, and the state that it left
+abbrev pub endOf : FinishAnswer → State → End
+endOf answer s = record { answer = answer; left = leftBy s }
 
 -- a number where a test holds, and 0 where it does not
 unfoldable pub onlyIf : Bool → ℕ → ℕ

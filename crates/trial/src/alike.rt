@@ -9,7 +9,7 @@ ghost use mathlib.Core.Bool.{true};
 ghost use mathlib.Core.Logic.{_↔_};
 ghost use Rattle.state.specs.declared.FeedAnswer.the-variants as feeds;
 ghost use Rattle.state.specs.declared.FinishAnswer.the-variants as finishes;
-ghost use Rattle.trial.specs.Ends.{refusedAfter, overBy, answerAt};
+ghost use Rattle.trial.specs.Ends.{leftAs, noRefusal, noTop, leftBy, endOf, refusedAfter, overBy, answerAt};
 
 // The number of a finish before the material's end.
 const UNFINISHED: u64 = 20;
@@ -38,14 +38,18 @@ pub struct End {
     left: Left,
 }
 
-fn no_refusal() -> Refusal {
+fn no_refusal() -> Refusal
+    ensures { λ r. ⌜ r ≡ noRefusal ⌝ }
+{
     Refusal {
         number: 0,
         place: 0,
     }
 }
 
-fn no_top() -> Top {
+fn no_top() -> Top
+    ensures { λ r. ⌜ r ≡ noTop ⌝ }
+{
     Top {
         id: 0,
         scale: 0,
@@ -54,7 +58,9 @@ fn no_top() -> Top {
     }
 }
 
-fn left_as(outcome: u64, count: u64, leaves: u64, refusal: Refusal, top: Top) -> Left {
+fn left_as(outcome: u64, count: u64, leaves: u64, refusal: Refusal, top: Top) -> Left
+    ensures { λ r. ⌜ r ≡ leftAs outcome count leaves refusal top ⌝ }
+{
     Left {
         outcome,
         count,
@@ -64,7 +70,9 @@ fn left_as(outcome: u64, count: u64, leaves: u64, refusal: Refusal, top: Top) ->
     }
 }
 
-fn left_by(s: State) -> Left {
+fn left_by(s: State) -> Left
+    ensures { λ r. ⌜ r ≡ leftBy s ⌝ }
+{
     match s {
         State::Reading {
             count,
@@ -85,7 +93,10 @@ fn left_by(s: State) -> Left {
     }
 }
 
-pub fn end_of(answer: FinishAnswer, s: State) -> End {
+// What finish answered, and the state that it left, as numbers.
+pub fn end_of(answer: FinishAnswer, s: State) -> End
+    ensures { λ r. ⌜ r ≡ endOf answer s ⌝ }
+{
     End {
         answer,
         left: left_by(s),

@@ -11,10 +11,10 @@ use Rattle.data.proofs.buffers.same_numbers.Statement.{statement}
 use Rattle.data.proofs.buffers.same_numbers.Tie as tie
 
 abbrev Inv-loop : tie.InvT-loop
-Inv-loop a b n i₀ i = (i ≤ length a) × (i ≤ length b) × (i ≤ n) × (take i a ≡ take i b)
+Inv-loop v w n i₀ i = (i ≤ length v) × (i ≤ length w) × (i ≤ n) × (take i v ≡ take i w)
 
 abbrev μ-loop : tie.MeasureT-loop
-μ-loop a b n i₀ i = length a - i
+μ-loop v w n i₀ i = length v - i
 
 loop-holds : tie.Need-loop-holds Inv-loop μ-loop
 loop-holds c = search needs
@@ -36,7 +36,7 @@ returns c =
     let i = c .before .before .before .before .before .before .loop .i in
     let s = c .before .before .before .before .before .before .before .args in
     let h : i < s .n = omega (arith, ltb-true) in
-    never (unlike-first (s .a .now) (s .b .now) (s .n) i h (c .if3 .taken))
+    never (unlike-first (s .v .now) (s .w .now) (s .n) i h (c .if3 .taken))
 
 add-i : tie.Need-add-i Inv-loop μ-loop
 add-i c = search needs
@@ -49,17 +49,17 @@ loop-again c =
     let i = c .before .before .before .before .before .before .loop .i in
     let inv = c .before .before .before .before .before .before .loop .inv in
     let s = c .before .before .before .before .before .before .before .args in
-    let h : i < length (s .a .now) = omega (arith, ltb-true) in
-    let k : i < length (s .b .now) = omega (arith, ltb-true) in
+    let h : i < length (s .v .now) = omega (arith, ltb-true) in
+    let k : i < length (s .w .now) = omega (arith, ltb-true) in
     let m : i < s .n = omega (arith, ltb-true) in
-    (omega arith, omega arith, omega arith, alike-more (s .a .now) (s .b .now) i h k (c .if3 .left) (inv .3))
+    (omega arith, omega arith, omega arith, alike-more (s .v .now) (s .w .now) i h k (c .if3 .left) (inv .3))
 
 returns-2 : tie.Need-returns-2 Inv-loop μ-loop
 returns-2 c =
     let i = c .before .loop .i in
     let inv = c .before .loop .inv in
     let s = c .before .before .args in
-    alike-first (s .a .now) (s .b .now) i (inv .3) (s .n) (inv .2)
+    alike-first (s .v .now) (s .w .now) i (inv .3) (s .n) (inv .2)
     (⊎-elim
     (λ w. inl (ltb-false _ _ (w .2 .left)))
     (λ w. inr (⊎-elim (λ v. inl (ltb-false _ _ (v .1 .left))) (λ v. inr (v .left)) w))
