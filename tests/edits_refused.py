@@ -67,7 +67,7 @@ class Log:
     def __init__(self, crate, edit):
         self.crate, self.errors, self.functions, self.broken = crate, set(), {}, []
         here = f"target/must-fail/{crate}/{edit}/"
-        for line in (ROOT / here / ".log").read_text(encoding="utf-8").splitlines():
+        for line in (ROOT / here / ".log").read_text(encoding="utf-8", errors="replace").splitlines():
             function, error = FUNCTION.match(line), ERROR.match(line)
             if function:
                 self.functions[function[1]] = function[2]
@@ -107,16 +107,27 @@ class Log:
         return left
 
 
+def text_of(crate, edit):
+    return (ROOT / "crates" / crate / "must-fail" / f"{edit}.edit").read_text(encoding="utf-8").splitlines()
+
+
 def told(crate, edit):
     """How many wrong answers an edit has: the comments in it."""
-    text = (ROOT / "crates" / crate / "must-fail" / f"{edit}.edit").read_text(encoding="utf-8")
-    return sum(line.startswith("#") for line in text.splitlines())
+    return sum(line.startswith("#") for line in text_of(crate, edit))
+
+
+def misplaced(crate, edit):
+    """Lines of an edit that change a proof or a contract, and so no answer."""
+    proofs = [line for line in text_of(crate, edit) if line.startswith("file: proofs/")]
+    return proofs + [line for line in text_of(crate, edit) if line.startswith("old:") and "⌜" in line]
 
 
 def check(crate, edit, lists):
     """What is wrong with an edit, given the names that each of its rows has."""
     if told(crate, edit) != len(lists):
         yield f"it has {told(crate, edit)} wrong answers, and docs/PROMISES.md lists {len(lists)}"
+    for line in misplaced(crate, edit):
+        yield f"it changes a proof or a contract: {line}"
     out = ROOT / "target/must-fail" / crate / f"{edit}.res"
     if not out.exists() or out.read_text().strip() != "refused":
         yield "there is no log of its refusal: run `rt ci` or `rt must-fail`"
