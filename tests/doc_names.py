@@ -52,7 +52,7 @@ class Crate:
         self.edits = {path.stem for path in folder.glob("must-fail/*.edit")}
 
 
-CRATES = {folder.name: Crate(folder) for folder in sorted((ROOT / "crates").iterdir())}
+CRATES = {folder.name: Crate(folder) for folder in sorted((ROOT / "crates").iterdir()) if folder.is_dir()}
 KNOWN = set(CRATES) | {word for crate in CRATES.values() for word in crate.names | crate.edits}
 LINES = (ROOT / "tests/doc_words.txt").read_text(encoding="utf-8").splitlines()
 OTHERS = {line for line in LINES if line and not line.startswith("#")}
