@@ -65,7 +65,7 @@ class Log:
     """What the log of an edit says: errors as (file, declaration), functions by name, and signs of a broken shape."""
 
     def __init__(self, crate, edit):
-        self.crate, self.errors, self.functions, self.broken = crate, set(), {}, []
+        self.errors, self.functions, self.broken = set(), {}, []
         here = f"target/must-fail/{crate}/{edit}/"
         for line in (ROOT / here / ".log").read_text(encoding="utf-8", errors="replace").splitlines():
             function, error = FUNCTION.match(line), ERROR.match(line)
