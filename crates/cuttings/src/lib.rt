@@ -24,7 +24,9 @@ use trial::prints::print_listing;
 use trial::prints::print_number;
 ghost use Prim.Native.Nat.{_+_, min};
 ghost use mathlib.Core.Path.{_≡_};
-ghost use mathlib.Core.Bool.{_&&_};
+ghost use mathlib.Core.Bool.{true, _&&_};
+ghost use mathlib.Core.Logic.{_↔_};
+ghost use Rattle.cuttings.specs.Readings.{ReadIn, ReadsAlike, CutAlike, PiecesAlike, lentWork, lentTable};
 
 // The longest segment that is cut at every place.
 const SHORT: usize = 512;
@@ -64,7 +66,9 @@ struct Reading {
     answered: bool,
 }
 
-fn read_in(segment: &[u8], cut: Cutting, want: End, work: &mut [u8], table: &mut [u64]) -> Reading {
+fn read_in(segment: &[u8], cut: Cutting, want: End, work: &mut [u8], table: &mut [u64]) -> Reading
+    ensures { λ r. ⌜ ReadIn (now (segment .entry)) cut want (now (work .entry)) (now (table .entry)) r (now (work .exit)) (now (table .exit)) ⌝ }
+{
     let mut s = start([b'm', b's', b'd', b'h']);
     let mut answered = true;
     let mut from = 0;
@@ -99,14 +103,18 @@ fn read_whole(segment: &[u8], work: &mut [u8], table: &mut [u64]) -> End {
 }
 
 // Whether a reading in pieces answers and ends as that of the whole.
-fn reads_alike(segment: &[u8], cut: Cutting, end: End, work: &mut [u8], table: &mut [u64]) -> bool {
+fn reads_alike(segment: &[u8], cut: Cutting, end: End, work: &mut [u8], table: &mut [u64]) -> bool
+    ensures { λ r. ⌜ ReadsAlike (now (segment .entry)) cut end (now (work .entry)) (now (table .entry)) r (now (work .exit)) (now (table .exit)) ⌝ }
+{
     let read = read_in(segment, cut, end, work, table);
     let own = read.end;
     both(read.answered, same_end(own, end))
 }
 
 // In pieces of one length; the whole work area and the whole leaf table are compared.
-fn pieces_alike(segment: &[u8], length: usize, end: End, work: &[u8], table: &[u64]) -> bool {
+fn pieces_alike(segment: &[u8], length: usize, end: End, work: &[u8], table: &[u64]) -> bool
+    ensures { λ r. ⌜ (r ≡ true) ↔ PiecesAlike (now (segment .entry)) length end (now (work .entry)) (now (table .entry)) lentWork lentTable ⌝ }
+{
     let mut own_work = [FILL_BYTE; 49152];
     let mut own_table = [FILL_NUMBER; 1536];
     let cut = Cutting {
@@ -129,7 +137,9 @@ fn cut_alike(
     table: &[u64],
     own_work: &mut [u8],
     own_table: &mut [u64],
-) -> bool {
+) -> bool
+    ensures { λ r. ⌜ (r ≡ true) ↔ CutAlike (now (segment .entry)) at end (now (work .entry)) (now (table .entry)) (now («own_work» .entry)) (now («own_table» .entry)) ⌝ }
+{
     let n = segment.len();
     let cut = Cutting {
         pieces: 2,

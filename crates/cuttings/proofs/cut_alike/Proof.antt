@@ -1,0 +1,117 @@
+-- `cuttings::cut_alike` meets its contract, by those of `reads_alike`, `same_levels` and `same_numbers`.
+use Prim.Native.Nat.{ℕ}
+use mathlib.Core.Path.{_≡_, refl, _∙_, subst}
+use mathlib.Core.Bool.{true}
+use mathlib.Core.Logic.{_↔_, ⊎-elim}
+use mathlib.Core.List.{List}
+use lib.ListN.{length}
+use Rattle.data.specs.Parts.{SameLevels}
+use Rattle.data.proofs.Alike.{both-taken, both-left}
+use Rattle.cuttings.specs.Readings.{Held, Alike, SameNumbers, cutAt, cutFed}
+use Rattle.cuttings.specs.declared.Cutting.{Cutting}
+use borrow.Author.Needs.{needs}
+use Rattle.cuttings.proofs.cut_alike.Statement.{statement}
+use Rattle.cuttings.proofs.cut_alike.Tie as tie
+use Rattle.cuttings.proofs.cut_alike.Reads as reads
+use Rattle.cuttings.proofs.cut_alike.Lts as lts
+use Rattle.cuttings.proofs.reads_alike.Reads as reads-alike-reads
+use Rattle.data.proofs.buffers.same_levels.Reads as same-levels-reads
+use Rattle.data.proofs.buffers.same_numbers.Reads as same-numbers-reads
+use Rattle.data.proofs.buffers.fill_levels.Reads as fill-levels-reads
+use Rattle.data.proofs.buffers.fill_numbers.Reads as fill-numbers-reads
+
+reads-alike-requires : tie.Need-reads-alike-requires
+reads-alike-requires c κs = search needs
+
+same-levels-requires : tie.Need-same-levels-requires
+same-levels-requires c κs = search needs
+
+same-numbers-requires : tie.Need-same-numbers-requires
+same-numbers-requires c κs = search needs
+
+fill-levels-requires : tie.Need-fill-levels-requires
+fill-levels-requires c κs = search needs
+
+fill-numbers-requires : tie.Need-fill-numbers-requires
+fill-numbers-requires c κs = search needs
+
+same-length : tie.Need-same-length
+same-length c = search needs
+
+same-length-2 : tie.Need-same-length-2
+same-length-2 c = search needs
+
+-- where the tests of the end and of the work area are joined: what they decide, and what the last test does
+module _
+    (c :
+    lts.Joined1 (
+      reads-alike-reads.Asked,
+      reads-alike-reads.Learnt,
+      same-levels-reads.Asked,
+      same-levels-reads.Learnt,
+      same-numbers-reads.Asked,
+      same-numbers-reads.Learnt,
+      fill-levels-reads.Asked,
+      fill-levels-reads.Learnt,
+      fill-numbers-reads.Asked,
+      fill-numbers-reads.Learnt,
+    )
+    reads.Pre
+    reads.Post) where
+  abbrev segment : List ℕ
+  segment = c .before .before .before .before .before .before .before .before .before .before .before .before .before .before .before .before .before .before .before .before .before .before .before .before .before .args .segment .now
+
+  abbrev cut : Cutting
+  cut = cutAt segment (c .before .before .before .before .before .before .before .before .before .before .before .before .before .before .before .before .before .before .before .before .before .before .before .before .before .args .at)
+
+  abbrev own : Held
+  own = cutFed segment cut (c .before .before .before .before .before .before .before .before .before .before .before .before .before .before .before .before .before .before .before .before .before .before .before .before .before .args .own-work .now) (c .before .before .before .before .before .before .before .before .before .before .before .before .before .before .before .before .before .before .before .before .before .before .before .before .before .args .own-table .now)
+
+  two :
+      (c .if1 .if2 ≡ true)
+      ↔ (Alike (c .before .before .before .before .before .before .before .before .before .before .before .before .before .before .before .before .before .before .before .before .before .before .before .before .before .args .end) segment cut (c .before .before .before .before .before .before .before .before .before .before .before .before .before .before .before .before .before .before .before .before .before .before .before .before .before .args .own-work .now) (c .before .before .before .before .before .before .before .before .before .before .before .before .before .before .before .before .before .before .before .before .before .before .before .before .before .args .own-table .now)
+      × SameLevels (own .work) (c .before .before .before .before .before .before .before .before .before .before .before .before .before .before .before .before .before .before .before .before .before .before .before .before .before .args .work .now) (length segment))
+  two =
+      let work = c .before .before .before .before .before .before .before .before .before .before .before .before .before .before .before .before .before .before .before .before .before .before .before .before .before .args .work .now in
+      let read = c .before .before .before .before .before .before .before .before .before .before .before .before .before .before .before .before .before .reads-alike .ensures in
+      let levels = c .before .before .before .before .before .before .before .before .before .before .before .same-levels in
+      let works = subst (λ (w : List ℕ). (levels .result ≡ true) ↔ SameLevels w work (length segment)) (read .works) (levels .ensures) in
+      ⊎-elim
+      (λ w. both-taken _ _ _ (read .alike) works (w .0 .taken) (w .1))
+      (λ w. both-left _ _ (read .alike) (w .0 .left) (w .1 ∙ w .0 .left))
+      (c .if1 .came)
+
+  last : (c .before .before .before .before .before .before .before .before .before .same-numbers .result ≡ true) ↔ SameNumbers (own .table) (c .before .before .before .before .before .before .before .before .before .before .before .before .before .before .before .before .before .before .before .before .before .before .before .before .before .args .table .now) (length segment)
+  last =
+      let table = c .before .before .before .before .before .before .before .before .before .before .before .before .before .before .before .before .before .before .before .before .before .before .before .before .before .args .table .now in
+      let read = c .before .before .before .before .before .before .before .before .before .before .before .before .before .before .before .before .before .reads-alike .ensures in
+      let numbers = c .before .before .before .before .before .before .before .before .before .same-numbers in
+      subst (λ (w : List ℕ). (numbers .result ≡ true) ↔ SameNumbers w table (length segment)) (read .tables) (numbers .ensures)
+
+returns : tie.Need-returns
+returns c = both-taken _ _ _ (two (c .before)) (last (c .before)) (c .if2 .taken) refl
+
+same-length-3 : tie.Need-same-length-3
+same-length-3 c = search needs
+
+same-length-4 : tie.Need-same-length-4
+same-length-4 c = search needs
+
+returns-2 : tie.Need-returns-2
+returns-2 c = both-left _ _ (two (c .before)) (c .if2 .left) (c .if2 .left)
+
+pub cut-alike-spec : {M : Type 1} → statement M
+cut-alike-spec =
+    tie.close
+    (tie.spec
+    reads-alike-requires
+    same-levels-requires
+    same-numbers-requires
+    fill-levels-requires
+    fill-numbers-requires
+    same-length
+    same-length-2
+    returns
+    same-length-3
+    same-length-4
+    returns-2)
