@@ -65,6 +65,16 @@ pub record ReadIn (segment : List ℕ) (cut : Cutting) (want : End) (work table 
   pub works : work' ≡ cutFed segment cut work table .work
   pub tables : table' ≡ cutFed segment cut work table .table
 
+-- a segment in one piece
+abbrev pub uncut : List ℕ → Cutting
+uncut segment = record { pieces = 1; first = length segment; other = length segment }
+
+-- the end of a reading of the whole, and what it leaves in the buffers
+pub record ReadWhole (segment work table : List ℕ) (r : End) (work' table' : List ℕ) : Type 0 where
+  pub ends : r ≡ endIn (cutFed segment (uncut segment) work table)
+  pub works : work' ≡ cutFed segment (uncut segment) work table .work
+  pub tables : table' ≡ cutFed segment (uncut segment) work table .table
+
 -- a reading in pieces answers and ends as the one whose end is given
 abbrev pub Alike : End → List ℕ → Cutting → List ℕ → List ℕ → Type 0
 Alike end segment cut work table = CutAnswer end segment cut work table × (endIn (cutFed segment cut work table) ≡ end)

@@ -26,7 +26,7 @@ ghost use Prim.Native.Nat.{_+_, min};
 ghost use mathlib.Core.Path.{_≡_};
 ghost use mathlib.Core.Bool.{true, _&&_};
 ghost use mathlib.Core.Logic.{_↔_};
-ghost use Rattle.cuttings.specs.Readings.{ReadIn, ReadsAlike, CutAlike, PiecesAlike, lentWork, lentTable};
+ghost use Rattle.cuttings.specs.Readings.{ReadIn, ReadWhole, ReadsAlike, CutAlike, PiecesAlike, lentWork, lentTable};
 
 // The longest segment that is cut at every place.
 const SHORT: usize = 512;
@@ -91,7 +91,9 @@ fn read_in(segment: &[u8], cut: Cutting, want: End, work: &mut [u8], table: &mut
 }
 
 // In one piece.
-fn read_whole(segment: &[u8], work: &mut [u8], table: &mut [u64]) -> End {
+fn read_whole(segment: &[u8], work: &mut [u8], table: &mut [u64]) -> End
+    ensures { λ r. ⌜ ReadWhole (now (segment .entry)) (now (work .entry)) (now (table .entry)) r (now (work .exit)) (now (table .exit)) ⌝ }
+{
     let n = segment.len();
     let cut = Cutting {
         pieces: 1,

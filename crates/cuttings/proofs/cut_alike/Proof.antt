@@ -7,8 +7,7 @@ use mathlib.Core.List.{List}
 use lib.ListN.{length}
 use Rattle.data.specs.Parts.{SameLevels}
 use Rattle.data.proofs.Alike.{both-taken, both-left}
-use Rattle.cuttings.specs.Readings.{Held, Alike, SameNumbers, cutAt, cutFed}
-use Rattle.cuttings.specs.declared.Cutting.{Cutting}
+use Rattle.cuttings.specs.Readings.{Alike, SameNumbers, cutAt, cutFed}
 use borrow.Author.Needs.{needs}
 use Rattle.cuttings.proofs.cut_alike.Statement.{statement}
 use Rattle.cuttings.proofs.cut_alike.Tie as tie
@@ -58,35 +57,41 @@ module _
     )
     reads.Pre
     reads.Post) where
-  abbrev segment : List ℕ
-  segment = c .before .before .before .before .before .before .before .before .before .before .before .before .before .before .before .before .before .before .before .before .before .before .before .before .before .args .segment .now
-
-  abbrev cut : Cutting
-  cut = cutAt segment (c .before .before .before .before .before .before .before .before .before .before .before .before .before .before .before .before .before .before .before .before .before .before .before .before .before .args .at)
-
-  abbrev own : Held
-  own = cutFed segment cut (c .before .before .before .before .before .before .before .before .before .before .before .before .before .before .before .before .before .before .before .before .before .before .before .before .before .args .own-work .now) (c .before .before .before .before .before .before .before .before .before .before .before .before .before .before .before .before .before .before .before .before .before .before .before .before .before .args .own-table .now)
-
   two :
+      let read = c .before .before .before .before .before .before .before .before .before .before .before .before .before .before .before .before .before in
+      let s = read .before .before .before .before .before .before .before .before .args in
+      let segment = s .segment .now in
+      let cut = cutAt segment (s .at) in
+      let own = cutFed segment cut (s .own-work .now) (s .own-table .now) in
       (c .if1 .if2 ≡ true)
-      ↔ (Alike (c .before .before .before .before .before .before .before .before .before .before .before .before .before .before .before .before .before .before .before .before .before .before .before .before .before .args .end) segment cut (c .before .before .before .before .before .before .before .before .before .before .before .before .before .before .before .before .before .before .before .before .before .before .before .before .before .args .own-work .now) (c .before .before .before .before .before .before .before .before .before .before .before .before .before .before .before .before .before .before .before .before .before .before .before .before .before .args .own-table .now)
-      × SameLevels (own .work) (c .before .before .before .before .before .before .before .before .before .before .before .before .before .before .before .before .before .before .before .before .before .before .before .before .before .args .work .now) (length segment))
+      ↔ (Alike (s .end) segment cut (s .own-work .now) (s .own-table .now) × SameLevels (own .work) (s .work .now) (length segment))
   two =
-      let work = c .before .before .before .before .before .before .before .before .before .before .before .before .before .before .before .before .before .before .before .before .before .before .before .before .before .args .work .now in
-      let read = c .before .before .before .before .before .before .before .before .before .before .before .before .before .before .before .before .before .reads-alike .ensures in
-      let levels = c .before .before .before .before .before .before .before .before .before .before .before .same-levels in
-      let works = subst (λ (w : List ℕ). (levels .result ≡ true) ↔ SameLevels w work (length segment)) (read .works) (levels .ensures) in
+      let levels = c .before .before .before .before .before .before .before .before .before .before .before in
+      let read = levels .before .before .before .before .before .before in
+      let s = read .before .before .before .before .before .before .before .before .args in
+      let n = length (s .segment .now) in
+      let told = read .reads-alike .ensures in
+      let same = levels .same-levels in
+      let works = subst (λ (w : List ℕ). (same .result ≡ true) ↔ SameLevels w (s .work .now) n) (told .works) (same .ensures) in
       ⊎-elim
-      (λ w. both-taken _ _ _ (read .alike) works (w .0 .taken) (w .1))
-      (λ w. both-left _ _ (read .alike) (w .0 .left) (w .1 ∙ w .0 .left))
+      (λ w. both-taken _ _ _ (told .alike) works (w .0 .taken) (w .1))
+      (λ w. both-left _ _ (told .alike) (w .0 .left) (w .1 ∙ w .0 .left))
       (c .if1 .came)
 
-  last : (c .before .before .before .before .before .before .before .before .before .same-numbers .result ≡ true) ↔ SameNumbers (own .table) (c .before .before .before .before .before .before .before .before .before .before .before .before .before .before .before .before .before .before .before .before .before .before .before .before .before .args .table .now) (length segment)
+  last :
+      let read = c .before .before .before .before .before .before .before .before .before .before .before .before .before .before .before .before .before in
+      let s = read .before .before .before .before .before .before .before .before .args in
+      let segment = s .segment .now in
+      let cut = cutAt segment (s .at) in
+      let own = cutFed segment cut (s .own-work .now) (s .own-table .now) in
+      (c .before .before .before .before .before .before .before .before .before .same-numbers .result ≡ true) ↔ SameNumbers (own .table) (s .table .now) (length segment)
   last =
-      let table = c .before .before .before .before .before .before .before .before .before .before .before .before .before .before .before .before .before .before .before .before .before .before .before .before .before .args .table .now in
-      let read = c .before .before .before .before .before .before .before .before .before .before .before .before .before .before .before .before .before .reads-alike .ensures in
-      let numbers = c .before .before .before .before .before .before .before .before .before .same-numbers in
-      subst (λ (w : List ℕ). (numbers .result ≡ true) ↔ SameNumbers w table (length segment)) (read .tables) (numbers .ensures)
+      let numbers = c .before .before .before .before .before .before .before .before .before in
+      let read = numbers .before .before .before .before .before .before .before .before in
+      let s = read .before .before .before .before .before .before .before .before .args in
+      let n = length (s .segment .now) in
+      let same = numbers .same-numbers in
+      subst (λ (w : List ℕ). (same .result ≡ true) ↔ SameNumbers w (s .table .now) n) (read .reads-alike .ensures .tables) (same .ensures)
 
 returns : tie.Need-returns
 returns c = both-taken _ _ _ (two (c .before)) (last (c .before)) (c .if2 .taken) refl

@@ -6,8 +6,7 @@ use mathlib.Core.Logic.{_↔_, ⊎-elim}
 use mathlib.Core.List.{List}
 use Rattle.data.proofs.Alike.{both-taken, both-left}
 use Rattle.cuttings.proofs.Pieces.{same-cut}
-use Rattle.cuttings.specs.Readings.{Held, Alike, SameNumbers, inPieces, cutFed, lentWork, lentTable}
-use Rattle.cuttings.specs.declared.Cutting.{Cutting}
+use Rattle.cuttings.specs.Readings.{Alike, SameNumbers, inPieces, cutFed, lentWork, lentTable}
 use borrow.Author.Needs.{needs}
 use Rattle.cuttings.proofs.pieces_alike.Statement.{statement}
 use Rattle.cuttings.proofs.pieces_alike.Tie as tie
@@ -57,23 +56,19 @@ module _
     )
     reads.Pre
     reads.Post) where
-  abbrev segment : List ℕ
-  segment = c .before .before .before .before .before .before .before .before .before .before .before .before .args .segment .now
-
-  abbrev cut : Cutting
-  cut = inPieces segment (c .before .before .before .before .before .before .before .before .before .before .before .before .args .length)
-
-  abbrev own : Held
-  own = cutFed segment cut lentWork lentTable
-
-  two : (c .if1 .if2 ≡ true) ↔ (Alike (c .before .before .before .before .before .before .before .before .before .before .before .before .args .end) segment cut lentWork lentTable × (own .work ≡ c .before .before .before .before .before .before .before .before .before .before .before .before .args .work .now))
+  two :
+      let s = c .before .before .before .before .before .before .before .before .before .before .before .before .args in
+      let cut = inPieces (s .segment .now) (s .length) in
+      (c .if1 .if2 ≡ true)
+      ↔ (Alike (s .end) (s .segment .now) cut lentWork lentTable × (cutFed (s .segment .now) cut lentWork lentTable .work ≡ s .work .now))
   two =
-      let read = same-cut _ _ _ _ _ _ _ _ _ _ _ (c .before .before .before .before .before .before .before .before .least .ensures) (c .before .before .before .before .before .reads-alike .ensures) in
-      let bytes = c .before .same-bytes in
-      let works = subst (λ (w : List ℕ). (bytes .result ≡ true) ↔ (w ≡ c .before .before .before .before .before .before .before .before .before .before .before .before .args .work .now)) (read .works) (bytes .ensures) in
+      let s = c .before .before .before .before .before .before .before .before .before .before .before .before .args in
+      let told = same-cut _ _ _ _ _ _ _ _ _ _ _ (c .before .before .before .before .before .before .before .before .least .ensures) (c .before .before .before .before .before .reads-alike .ensures) in
+      let same = c .before .same-bytes in
+      let works = subst (λ (w : List ℕ). (same .result ≡ true) ↔ (w ≡ s .work .now)) (told .works) (same .ensures) in
       ⊎-elim
-      (λ w. both-taken _ _ _ (read .alike) works (w .0 .taken) (w .1))
-      (λ w. both-left _ _ (read .alike) (w .0 .left) (w .1 ∙ w .0 .left))
+      (λ w. both-taken _ _ _ (told .alike) works (w .0 .taken) (w .1))
+      (λ w. both-left _ _ (told .alike) (w .0 .left) (w .1 ∙ w .0 .left))
       (c .if1 .came)
 
 returns : tie.Need-returns
