@@ -12,7 +12,8 @@ use Rattle.state.specs.declared.FeedAnswer.{FeedAnswer}
 use Rattle.data.specs.Parts.{partOf}
 use Rattle.trial.specs.Ends.{answerAt}
 use Rattle.trial.specs.declared.alike.End.{End}
-use Rattle.cuttings.specs.Readings.{Held, fedWith, after, fedPieces, Answer, ReadsAlike}
+use Rattle.state.specs.Parts.{Held, heldAfter, feedHeld}
+use Rattle.cuttings.specs.Readings.{fedPieces, Answer, ReadsAlike}
 
 -- both of two tests
 and-both : (a b : Bool) → a && b ≡ true → (a ≡ true) × (b ≡ true)
@@ -22,30 +23,30 @@ and-both false b e = absurd (false≢true e)
 both-and : (a b : Bool) → a ≡ true → b ≡ true → a && b ≡ true
 both-and a b e k = rw (e, k)
 
-module _ (segment : List ℕ) (long from to next : ℕ) (h : Held) (o : Out FeedAnswer) (fed : o ≡ fedWith h (partOf segment from to)) (on : next ≡ min (to + long) (length segment)) where
+module _ (segment : List ℕ) (long from to next : ℕ) (h : Held) (o : Out FeedAnswer) (fed : o ≡ feedHeld h (partOf segment from to)) (on : next ≡ min (to + long) (length segment)) where
   -- what is held after the rest of the pieces
-  step-held : (k : ℕ) → fedPieces k segment long to next (after o) ≡ fedPieces (suc k) segment long from to h
+  step-held : (k : ℕ) → fedPieces k segment long to next (heldAfter o) ≡ fedPieces (suc k) segment long from to h
   unfolding fedPieces
   step-held k = rw (fed, on)
 
-  pub rest-held : (e i : ℕ) → i < e → fedPieces (e - (i + 1)) segment long to next (after o) ≡ fedPieces (e - i) segment long from to h
+  pub rest-held : (e i : ℕ) → i < e → fedPieces (e - (i + 1)) segment long to next (heldAfter o) ≡ fedPieces (e - i) segment long from to h
   rest-held e i lt =
       let n : e - i ≡ suc (e - (i + 1)) = omega arith in
       step-held (e - (i + 1)) ∙ sym (ap (λ (k : ℕ). fedPieces k segment long from to h) n)
 
   -- what is answered in the rest, with all that was answered so far
   module _ (end : End) (so now told : Bool) (tells : (told ≡ true) ↔ (o .answer ≡ answerAt to end)) (joins : now ≡ (so && told)) where
-    step-answered : (k : ℕ) → ((now ≡ true) × Answer end k segment long to next (after o)) ↔ ((so ≡ true) × Answer end (suc k) segment long from to h)
+    step-answered : (k : ℕ) → ((now ≡ true) × Answer end k segment long to next (heldAfter o)) ↔ ((so ≡ true) × Answer end (suc k) segment long from to h)
     unfolding Answer
     step-answered k = rw (sym fed, sym on) (
       λ w. let both = and-both so told (sym joins ∙ w .0) in (both .0, (tells .0 (both .1), w .1)),
       λ w. (joins ∙ both-and so told (w .0) (tells .1 (w .1 .0)), w .1 .1),
     )
 
-    pub rest-answered : (e i : ℕ) → i < e → ((now ≡ true) × Answer end (e - (i + 1)) segment long to next (after o)) ↔ ((so ≡ true) × Answer end (e - i) segment long from to h)
+    pub rest-answered : (e i : ℕ) → i < e → ((now ≡ true) × Answer end (e - (i + 1)) segment long to next (heldAfter o)) ↔ ((so ≡ true) × Answer end (e - i) segment long from to h)
     rest-answered e i lt =
         let n : suc (e - (i + 1)) ≡ e - i = omega arith in
-        subst (λ (k : ℕ). ((now ≡ true) × Answer end (e - (i + 1)) segment long to next (after o)) ↔ ((so ≡ true) × Answer end k segment long from to h)) n (step-answered (e - (i + 1)))
+        subst (λ (k : ℕ). ((now ≡ true) × Answer end (e - (i + 1)) segment long to next (heldAfter o)) ↔ ((so ≡ true) × Answer end k segment long from to h)) n (step-answered (e - (i + 1)))
 
 -- a test that is joined of two decides what both decide
 pub joined : {P Q : Type 0} (a b r : Bool) → r ≡ (a && b) → ((a ≡ true) ↔ P) → ((b ≡ true) ↔ Q) → (r ≡ true) ↔ (P × Q)

@@ -6,6 +6,7 @@ use mathlib.Core.Logic.{_↔_}
 use mathlib.Core.List.{List, [], _∷_}
 use lib.ListN.{length, take, replicate}
 use Rattle.state.specs.Calls.{Out, startOf, feedOf, finishOf}
+use Rattle.state.specs.Parts.{Held, held, heldAfter, feedHeld}
 use Rattle.state.specs.Levels.{wordAt}
 use Rattle.state.specs.declared.State.{State}
 use Rattle.state.specs.declared.FeedAnswer.{FeedAnswer}
@@ -15,33 +16,17 @@ use Rattle.trial.specs.declared.alike.End.{End}
 use Rattle.cuttings.specs.declared.Cutting.{Cutting}
 use Rattle.cuttings.specs.declared.Reading.{Reading}
 
--- what a reading holds between two pieces
-pub record Held : Type 0 where
-  pub state : State
-  pub work : List ℕ
-  pub table : List ℕ
-
-abbrev pub held : State → List ℕ → List ℕ → Held
-held s work table = record { state = s; work = work; table = table }
-
--- what feed answers and leaves of a piece; and what is held after it
-abbrev pub fedWith : Held → List ℕ → Out FeedAnswer
-fedWith h piece = feedOf (h .state) piece (h .work) (h .table)
-
-abbrev pub after : Out FeedAnswer → Held
-after o = held (o .state) (o .work) (o .table)
-
 -- so many pieces of a segment fed, the first from one place to another and each next one so long, or up to the segment's end
 unfoldable pub fedPieces : ℕ → List ℕ → ℕ → ℕ → ℕ → Held → Held
 fedPieces zero segment long from to h = h
-fedPieces (suc k) segment long from to h = fedPieces k segment long to (min (to + long) (length segment)) (after (fedWith h (partOf segment from to)))
+fedPieces (suc k) segment long from to h = fedPieces k segment long to (min (to + long) (length segment)) (heldAfter (feedHeld h (partOf segment from to)))
 
 -- each of these feeds answers what it has to on the way to an end
 unfoldable pub Answer : End → ℕ → List ℕ → ℕ → ℕ → ℕ → Held → Type 0
 Answer end zero segment long from to h = Unit {0}
 Answer end (suc k) segment long from to h =
-    (fedWith h (partOf segment from to) .answer ≡ answerAt to end)
-    × Answer end k segment long to (min (to + long) (length segment)) (after (fedWith h (partOf segment from to)))
+    (feedHeld h (partOf segment from to) .answer ≡ answerAt to end)
+    × Answer end k segment long to (min (to + long) (length segment)) (heldAfter (feedHeld h (partOf segment from to)))
 
 -- before the first byte, the brand `msdh` wanted
 abbrev pub begun : List ℕ → List ℕ → Held

@@ -7,7 +7,8 @@ use native.Mathlib.Omega.{arith}
 use Rattle.state.specs.Calls.{Finished, feedOf}
 use Rattle.state.specs.declared.State.{State}
 use Rattle.trial.specs.Ends.{endOf}
-use Rattle.cuttings.specs.Readings.{Held, held, fedPieces, Answer, cutFed, endIn}
+use Rattle.state.specs.Parts.{Held, held}
+use Rattle.cuttings.specs.Readings.{fedPieces, Answer, cutFed, endIn}
 use Rattle.cuttings.proofs.Pieces.{first-held, first-answered, rest-held, rest-answered, none-held, none-answered}
 use borrow.Author.Needs.{needs}
 use lib.ListN.{length}
@@ -59,7 +60,7 @@ loop-again c =
     let l = c .before .before .before .before .before .before .before .before .before .before .before .before .loop in
     let h = held (l .s) (l .work) (l .table) in
     let piece = c .before .before .before .before .before .before .before .before .before .before .part .ensures in
-    let fed = c .before .before .before .before .before .before .before .feed .ensures ∙ ap (λ (p : List ℕ). feedOf (l .s) p (l .work) (l .table)) piece in
+    let fed = c .before .before .before .before .before .before .before .feed .ensures .0 ∙ ap (λ (p : List ℕ). feedOf (l .s) p (l .work) (l .table)) piece in
     let on = c .piece-end .ensures in
     let lt = c .before .before .before .before .before .before .before .before .before .before .before .loop-test .taken in
     let told = c .before .before .answers-at .ensures in (
