@@ -26,7 +26,7 @@ PLACED = re.compile(rf"`([a-z_]+)`, (?:specs )?`([A-Z]\w*)`, ({LIST})")
 
 def declared(path):
     """What an .antt file declares: definitions, theorems, records, their fields, and constructors."""
-    text = path.read_text(encoding="utf-8")
+    text = re.sub(r"^ *let .*", "", path.read_text(encoding="utf-8"), flags=re.M)
     found = re.findall(r"^ *(?:(?:pub|abbrev|unfoldable) )*((?:[^\s:(){}=]+ )+)(?:[({].*[)}] )?:\s", text, re.M)
     found += re.findall(r"^ *(?:pub )?(?:record|data|module) (\S+)", text, re.M)
     return {word for line in found for word in line.split()}

@@ -1,29 +1,26 @@
 -- One piece more of a reading in pieces: what is held, and what was answered, so far and in the rest.
 use Prim.Native.Nat.{ℕ, zero, suc, _+_, _-_, _<_, _≤_, min}
 use mathlib.Core.Path.{_≡_, refl, sym, _∙_, ap, subst}
-use mathlib.Core.Bool.{Bool, true, false, _&&_, false≢true}
+use mathlib.Core.Bool.{Bool, true, false, _&&_}
 use mathlib.Core.Logic.{_↔_}
 use mathlib.Core.List.{List}
 use native.Mathlib.Omega.{arith}
 use native.Mathlib.Nat.{sub-zero}
 use lib.ListN.{length}
+use Rattle.basics.proofs.Tests.{and-both}
 use Rattle.state.specs.Calls.{Out}
 use Rattle.state.specs.declared.FeedAnswer.{FeedAnswer}
-use Rattle.data.specs.Parts.{partOf}
+use Rattle.data.specs.Parts.{bytesFrom}
 use Rattle.trial.specs.Ends.{answerAt}
 use Rattle.trial.specs.declared.alike.End.{End}
 use Rattle.state.specs.Parts.{Held, heldAfter, feedHeld}
 use Rattle.cuttings.specs.Readings.{fedPieces, Answer, ReadsAlike}
 
 -- both of two tests
-and-both : (a b : Bool) → a && b ≡ true → (a ≡ true) × (b ≡ true)
-and-both true b e = (refl, e)
-and-both false b e = absurd (false≢true e)
-
 both-and : (a b : Bool) → a ≡ true → b ≡ true → a && b ≡ true
 both-and a b e k = rw (e, k)
 
-module _ (segment : List ℕ) (long from to next : ℕ) (h : Held) (o : Out FeedAnswer) (fed : o ≡ feedHeld h (partOf segment from to)) (on : next ≡ min (to + long) (length segment)) where
+module _ (segment : List ℕ) (long from to next : ℕ) (h : Held) (o : Out FeedAnswer) (fed : o ≡ feedHeld h (bytesFrom segment from to)) (on : next ≡ min (to + long) (length segment)) where
   -- what is held after the rest of the pieces
   step-held : (k : ℕ) → fedPieces k segment long to next (heldAfter o) ≡ fedPieces (suc k) segment long from to h
   unfolding fedPieces

@@ -5,12 +5,12 @@ use mathlib.Core.Bool.{Bool, true}
 use mathlib.Core.Logic.{_↔_}
 use mathlib.Core.List.{List, [], _∷_}
 use lib.ListN.{length, take, replicate}
+use Rattle.basics.specs.Bytes.{number}
 use Rattle.state.specs.Calls.{Out, startOf, feedOf, finishOf}
 use Rattle.state.specs.Parts.{Held, held, heldAfter, feedHeld}
-use Rattle.state.specs.Levels.{wordAt}
 use Rattle.state.specs.declared.State.{State}
 use Rattle.state.specs.declared.FeedAnswer.{FeedAnswer}
-use Rattle.data.specs.Parts.{partOf, SameLevels}
+use Rattle.data.specs.Parts.{bytesFrom, SameLevels, SameNumbers}
 use Rattle.trial.specs.Ends.{endOf, answerAt}
 use Rattle.trial.specs.declared.alike.End.{End}
 use Rattle.cuttings.specs.declared.Cutting.{Cutting}
@@ -19,18 +19,18 @@ use Rattle.cuttings.specs.declared.Reading.{Reading}
 -- so many pieces of a segment fed, the first from one place to another and each next one so long, or up to the segment's end
 unfoldable pub fedPieces : ℕ → List ℕ → ℕ → ℕ → ℕ → Held → Held
 fedPieces zero segment long from to h = h
-fedPieces (suc k) segment long from to h = fedPieces k segment long to (min (to + long) (length segment)) (heldAfter (feedHeld h (partOf segment from to)))
+fedPieces (suc k) segment long from to h = fedPieces k segment long to (min (to + long) (length segment)) (heldAfter (feedHeld h (bytesFrom segment from to)))
 
 -- each of these feeds answers what it has to on the way to an end
 unfoldable pub Answer : End → ℕ → List ℕ → ℕ → ℕ → ℕ → Held → Type 0
 Answer end zero segment long from to h = Unit {0}
 Answer end (suc k) segment long from to h =
-    (feedHeld h (partOf segment from to) .answer ≡ answerAt to end)
-    × Answer end k segment long to (min (to + long) (length segment)) (heldAfter (feedHeld h (partOf segment from to)))
+    (feedHeld h (bytesFrom segment from to) .answer ≡ answerAt to end)
+    × Answer end k segment long to (min (to + long) (length segment)) (heldAfter (feedHeld h (bytesFrom segment from to)))
 
 -- before the first byte, the brand `msdh` wanted
 abbrev pub begun : List ℕ → List ℕ → Held
-begun work table = held (startOf (wordAt (109 ∷ 115 ∷ 100 ∷ 104 ∷ []) 0)) work table
+begun work table = held (startOf (number (109 ∷ 115 ∷ 100 ∷ 104 ∷ []))) work table
 
 -- a segment cut so and fed; and what finish answers and leaves then
 abbrev pub cutFed : List ℕ → Cutting → List ℕ → List ℕ → Held
@@ -69,10 +69,6 @@ pub record ReadsAlike (segment : List ℕ) (cut : Cutting) (end : End) (work tab
   pub alike : (r ≡ true) ↔ Alike end segment cut work table
   pub works : work' ≡ cutFed segment cut work table .work
   pub tables : table' ≡ cutFed segment cut work table .table
-
--- two leaf tables are equally long and hold the same in their first n numbers
-abbrev pub SameNumbers : List ℕ → List ℕ → ℕ → Type 0
-SameNumbers v w n = (length v ≡ length w) × (take n v ≡ take n w)
 
 -- a segment cut in two at a place
 abbrev pub cutAt : List ℕ → ℕ → Cutting

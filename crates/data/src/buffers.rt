@@ -3,8 +3,7 @@ use crate::text::part;
 ghost use mathlib.Core.Path.{_≡_};
 ghost use mathlib.Core.Bool.{true};
 ghost use mathlib.Core.Logic.{_↔_};
-ghost use lib.ListN.{length, take};
-ghost use Rattle.data.specs.Parts.{levelPart, SameLevels};
+ghost use Rattle.data.specs.Parts.{levelPart, SameLevels, SameNumbers};
 
 const LEVEL_BYTES: usize = 12288;
 
@@ -84,7 +83,7 @@ pub fn same_bytes(a: &[u8], b: &[u8]) -> bool
 
 // Whether two tables are equally long and their first n numbers are the same.
 pub fn same_numbers(v: &[u64], w: &[u64], n: usize) -> bool
-    ensures { λ r. ⌜ (r ≡ true) ↔ (length (now (v .entry)) ≡ length (now (w .entry))) × (take n (now (v .entry)) ≡ take n (now (w .entry))) ⌝ }
+    ensures { λ r. ⌜ (r ≡ true) ↔ SameNumbers (now (v .entry)) (now (w .entry)) n ⌝ }
 {
     let mut i = 0;
     while i < v.len() && i < w.len() && i < n {

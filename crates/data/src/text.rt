@@ -1,7 +1,7 @@
 // Text in lent bytes: parts of it, its fields, numbers and hex digits.
 ghost use Prim.Native.Nat.{min};
 ghost use mathlib.Core.Path.{_≡_};
-ghost use Rattle.data.specs.Parts.{partOf};
+ghost use Rattle.data.specs.Parts.{bytesFrom};
 
 const TAB: u8 = 9;
 
@@ -13,7 +13,7 @@ const COMMA: u8 = 44;
 
 // The bytes from one place up to another; none where that is no part.
 pub fn part(text: &[u8], from: usize, to: usize) -> &[u8]
-    ensures { λ r. ⌜ now r ≡ partOf (now (text .entry)) from to ⌝ }
+    ensures { λ r. ⌜ now r ≡ bytesFrom (now (text .entry)) from to ⌝ }
 {
     if to <= text.len() {
         if from <= to {

@@ -58,20 +58,8 @@ unfolding feedAll
 short-parts [] h short = refl
 short-parts (part ∷ parts) h short = rw (feed-short (h .state) part (h .work) (h .table) short) (short-parts parts h short)
 
-module _ (brand : ℕ) (parts : List (List ℕ)) (work table : List ℕ) (all : AllBytes (joined parts)) where
-  abbrev bytes : List ℕ
-  bytes = joined parts
-
-  -- With a work area that is long enough: answer, with the refusal and its place or the leaf count; state; work area; leaf table: those of
-  -- one feed of all the bytes. No part at all is a cutting of no bytes.
-  pub cut-anywhere : workBytes ≤ length work → inParts brand parts work table ≡ wholeOf brand bytes work table
-  cut-anywhere long = ap finishHeld (cutting parts (held (startOf brand) work table) all) ∙ finish-whole brand bytes work table all long
-
-  -- and those of the descent over the uncut segment
-  pub cut-descent : workBytes ≤ length work → inParts brand parts work table ≡ wholeD brand bytes work table
-  cut-descent long = cut-anywhere long ∙ sym (law-d brand bytes work table all)
-
-  -- With a shorter one every feed gives 1 and changes nothing, and finish gives 20 with place 0.
+module _ (brand : ℕ) (parts : List (List ℕ)) (work table : List ℕ) where
+  -- With a work area that is too short every feed gives 1 and changes nothing, and finish gives 20 with place 0.
   pub short-refuses : length work < workBytes → (part : List ℕ) → feedHeld (feedAll (held (startOf brand) work table) parts) part ≡ out (feeds.Refused (refusal 1 0)) (startOf brand) work table
   short-refuses short part = rw (short-parts parts (held (startOf brand) work table) short) (feed-short (startOf brand) part work table short)
 
@@ -87,12 +75,25 @@ module _ (brand : ℕ) (parts : List (List ℕ)) (work table : List ℕ) (all : 
       at (inl short) = let z : _≡_ {A = ℕ} 0 1 = cc (ap (λ (o : Out FinishAnswer). o .answer) (short-finishes short)) in absurd (omega arith)
       at (inr long) = long
 
+module _ (brand : ℕ) (parts : List (List ℕ)) (work table : List ℕ) (all : AllBytes (joined parts)) where
+  abbrev bytes : List ℕ
+  bytes = joined parts
+
+  -- With a work area that is long enough: answer, with the refusal and its place or the leaf count; state; work area; leaf table: those of
+  -- one feed of all the bytes. No part at all is a cutting of no bytes.
+  pub cut-anywhere : workBytes ≤ length work → inParts brand parts work table ≡ wholeOf brand bytes work table
+  cut-anywhere long = ap finishHeld (cutting parts (held (startOf brand) work table) all) ∙ finish-whole brand bytes work table all long
+
+  -- and those of the descent over the uncut segment
+  pub cut-descent : workBytes ≤ length work → inParts brand parts work table ≡ wholeD brand bytes work table
+  cut-descent long = cut-anywhere long ∙ sym (law-d brand bytes work table all)
+
   -- A reading that is accepted, however it was cut: the bytes are a segment of the tree, it is accepted with its leaves, and each byte of its
   -- material belongs to one leaf or one inner index box, each tick to one leaf.
   pub accepted-belongs : (k : ℕ) → inParts brand parts work table .answer ≡ finishes.Listed k →
       (ls : List Leaf) × (segment brand bytes ≡ some ls) × (length ls ≤ room table) × Accepts brand bytes table ls (inParts brand parts work table) × Belongs brand bytes ls
   accepted-belongs k e =
-      let long = accepted-long k e in
+      let long = accepted-long brand parts work table k e in
       let same = cut-anywhere long in
       let (ls, is, fits, a) = accepted brand bytes work table all long k (sym (ap (λ (o : Out FinishAnswer). o .answer) same) ∙ e) in
       (ls, is, fits, subst (Accepts brand bytes table ls) (sym same) a, belongs brand bytes ls is)

@@ -38,7 +38,7 @@ use Rattle.descent.specs.Opening.{skipTo}
 use Rattle.descent.specs.Leaf.{tfhdD, widthD, tfdtD, trafBodyD, trafD, moofBodyD, moofD, leafBodyD, leafD}
 use Rattle.demands.specs.Told.{upon, clean, climb, headLength, headerOf}
 use Rattle.demands.specs.Walks.{trafItem, trafWalk, moofItem, moofWalk, leafItem, leafWalk}
-use Rattle.demands.proofs.Upons.{clean-none, upon-after, upon-unless, upon-field, clean-append, clean-shows}
+use Rattle.demands.proofs.Upons.{clean-none, upon-after, upon-unless, upon-field, clean-append, clean-shows, upon-some}
 use Rattle.demands.proofs.HeadTree.{head-tree}
 use Rattle.demands.proofs.ListTree.{list-tree, start-tree}
 use Rattle.demands.proofs.WalkTree.{not-or, field-rest, body-length, traf-faults, cut-fits, traf-walk, moof-walk, leaf-walk, first-seen, lastTime, climb-told}
@@ -295,13 +295,6 @@ leaf-times id last xs ts k e =
     climb-told last ts us k q
 
 -- An accepted reading, from what it gives.
-upon-some : {R X : Type 0} (r : Res R Flow Left) (k : R → Flow → ℕ → List ℕ → Option X) (x : X) → upon r k ≡ some x →
-    (q : R) × (g : Flow) × (m : ℕ) × (cs : List ℕ) × (r ≡ okay q g m cs) × (k q g m cs ≡ some x)
-unfolding upon
-upon-some (okay q g m cs) k x e = (q, g, m, cs, refl, e)
-upon-some (fail y l m) k x e = absurd-some e
-upon-some (cutOff l m) k x e = absurd-some e
-
 boxes-same : (a b : List Box) → some a ≡ some b → a ≡ b
 boxes-same a b e = cc
 

@@ -25,11 +25,17 @@ looked-up behind =
     let fits : ltb (length (rowsOf leavesOfS ++ behind)) 12 ≡ false = le-ltb (length (rowsOf leavesOfS ++ behind)) 12 (omega arith) in
     record { at-4999 = rw fits; at-5000 = rw fits; at-6999 = rw fits; at-7000 = rw fits; at-9999 = rw fits; at-10000 = rw fits }
 
+-- the records of S's leaves, number by number
+rows-of-s : rowsOf leavesOfS ≡ 76 ∷ 60 ∷ 5000 ∷ 2000 ∷ 2415919104 ∷ 100 ∷ 136 ∷ 60 ∷ 7000 ∷ 3000 ∷ 2415919104 ∷ 2100 ∷ []
+unfolding theLookup
+rows-of-s = refl
+
 -- Lookup in S: 4999 gives 23; 5000 and 6999 leaf 1; 7000 and 9999 leaf 2; 10000 gives 24.
 pub s-lookup : LookupInS
 s-lookup =
     record {
       accepts = s-accepted;
+      records = rows-of-s;
       in-left = rw (s-accepted .fed) (looked-up (drop 12 table0));
       in-any = λ behind. rw (s-accepted .fed) (looked-up behind);
     }

@@ -103,5 +103,6 @@ pub record LookedUp (s : State) (table : List ℕ) : Type 0 where
 -- nothing but these twelve numbers too.
 pub record LookupInS : Type 0 where
   pub accepts : IsAccepted S 196 leavesOfS workS
+  pub records : rowsOf leavesOfS ≡ 76 ∷ 60 ∷ 5000 ∷ 2000 ∷ 2415919104 ∷ 100 ∷ 136 ∷ 60 ∷ 7000 ∷ 3000 ∷ 2415919104 ∷ 2100 ∷ []
   pub in-left : LookedUp (byBytes S .state) (byBytes S .table)
   pub in-any : (behind : List ℕ) → LookedUp (byBytes S .state) (rowsOf leavesOfS ++ behind)

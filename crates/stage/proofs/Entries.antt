@@ -62,16 +62,16 @@ unfolding pick
 chosen true i inner s slot e = let y : _≡_ {A = ℕ} 0 1 = cc in absurd (omega arith)
 chosen false i inner s slot e = (refl, cc, cc)
 
-pub refused : (t i : Bool) (s : Slot) → pick t read.Altered (read.Stands i s) ≡ read.Altered → t ≡ true
+pub altered-told : (t i : Bool) (s : Slot) → pick t read.Altered (read.Stands i s) ≡ read.Altered → t ≡ true
 unfolding pick
-refused true i s e = refl
-refused false i s e = let y : _≡_ {A = ℕ} 0 1 = cc in absurd (omega arith)
+altered-told true i s e = refl
+altered-told false i s e = let y : _≡_ {A = ℕ} 0 1 = cc in absurd (omega arith)
 
 module _ (top : Top) (ls : Levels) (f : Flow) (n b : ℕ) (r : EntryRead) (k : r ≡ readOf (inmost ls) (entryAt (f .work) (entryPlace ls)) (f .now) n) where
   -- an entry that is not what its index stored
   pub entry-altered : r ≡ read.Altered → bad (refusal 12 n) (left f) ≡ stepStage (stage.Entry top ls) f n b
   unfolding stepStage stepEntry shows unless lowest
-  entry-altered e = rw (refused _ _ _ (sym k ∙ e))
+  entry-altered e = rw (altered-told _ _ _ (sym k ∙ e))
 
   -- one that may be
   pub entry-stands : (inner : Bool) (slot : Slot) (taken : Levels) → r ≡ read.Stands inner slot → taken ≡ tookEntry ls →

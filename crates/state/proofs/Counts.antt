@@ -59,16 +59,16 @@ read-count (refused m x kept) (b ∷ bs) n e = let z : _≡_ {A = ℕ} 0 1 = cc 
 -- what an unrefused feed answers, and the count that it leaves
 pub record Counted (s : State) (piece : List ℕ) (after : State) (n : ℕ) : Type 0 where
   pub answers : n ≡ countOf s + length piece
-  pub leaves : countOf after ≡ n
+  pub counts : countOf after ≡ n
 
 state-counts : (s : State) (piece work table : List ℕ) (n : ℕ) → feedState s piece work table .answer ≡ feeds.Read n → Counted s piece (feedState s piece work table .state) n
 unfolding feedState countOf stateOf
 state-counts (state.Reading m leaves now last s) piece work table n e =
     let w : World = reading m s (flowOf leaves now last work table) in
-    record { answers = read-count w piece n e; leaves = answer-count (run w piece) n e }
+    record { answers = read-count w piece n e; counts = answer-count (run w piece) n e }
 state-counts (state.Ended m leaves top) piece work table n e =
     let w : World = ended m top (leftOf leaves work table) in
-    record { answers = read-count w piece n e; leaves = answer-count (run w piece) n e }
+    record { answers = read-count w piece n e; counts = answer-count (run w piece) n e }
 state-counts (state.Refused m leaves x) piece work table n e = let z : _≡_ {A = ℕ} 0 1 = cc in absurd (omega arith)
 state-counts (state.Accepted m leaves top) piece work table n e = let z : _≡_ {A = ℕ} 0 1 = cc in absurd (omega arith)
 

@@ -2,14 +2,14 @@
 -- where none is. By the tests of `fieldEnds` and `entryEnds`, case by case.
 use Prim.Native.Nat.{ℕ, zero, suc, _+_, _*_, _%_, _≤_, _<_}
 use mathlib.Core.Path.{_≡_, refl}
-use mathlib.Core.Bool.{Bool, true, false, not, _||_, or-true}
+use mathlib.Core.Bool.{Bool, true, false, not, _&&_, _||_, or-true, and-false}
 use mathlib.Core.Logic.{_≢_, _⊎_, inl, inr}
 use native.Mathlib.Omega.{arith}
-use lib.Dec.{eqb, ltb}
-use borrow.Author.Tests.{lt-ltb, le-ltb, eq-eqb, ne-eqb}
+use lib.Dec.{eqb, ltb, leb}
+use borrow.Author.Tests.{lt-ltb, le-ltb, le-leb, lt-leb, eq-eqb, ne-eqb}
 use Rattle.basics.specs.Choose.{pick}
 use Rattle.machine.specs.Faults.{refusal, shows, lowest, unless}
-use Rattle.machine.specs.Run.{Sub, go, bad}
+use Rattle.machine.specs.Run.{Sub, go, done, bad}
 use Rattle.state.specs.declared.Span.{Span}
 use Rattle.state.specs.declared.Draft.{Draft}
 use Rattle.state.specs.declared.Sums.{Sums}
@@ -23,7 +23,7 @@ use Rattle.state.specs.declared.EntryPart.the-variants as entry
 use Rattle.state.specs.declared.Sidx.{Sidx}
 use Rattle.state.specs.declared.Sidx.the-variants as sidx
 use Rattle.state.specs.Flow.{Flow, Left, left}
-use Rattle.state.specs.Sidx.{Place, topmost, under, sidxVersionFaults, idFaults, scaleFaults, timeFaults, offsetFaults, countFaults, wideMore, fieldEnds, plusSize, entryEnds, keepByte, stepSidx}
+use Rattle.state.specs.Sidx.{Place, topmost, under, sidxVersionFaults, idFaults, scaleFaults, timeFaults, offsetFaults, countFaults, sumFaults, wideMore, closeSidx, fieldEnds, plusSize, entryEnds, keepByte, stepSidx}
 use Rattle.state.proofs.Edges.{length-before-count}
 
 abbrev Ends : Type 0
@@ -149,6 +149,31 @@ module _ (span : Span) (d : Draft) (f : Flow) (n : ℕ) where
       off : (v ≡ 0) ⊎ (1024 < v) → eqb v 0 || ltb 1024 v ≡ true
       off (inl none) = rw (eq-eqb v 0 none)
       off (inr many) = rw (lt-ltb 1024 v many, or-true (eqb v 0))
+
+  -- Rows 14 and 12, at the index's last byte, the n-th of the segment: the top index gives 14 where its material ends past the limit or its
+  -- start plus durations is 2 to the power 64 or more; an inner one gives 12 where its sums are not its entry's; else the index is read.
+  pub sums-end : (top : Top) (slot : Slot) (depth : ℕ) (x : Index) →
+      ((268435456 < n + x .offset + x .sizes) ⊎ (18446744073709551616 ≤ x .time + x .durations) → closeSidx topmost span x f n ≡ gives 14)
+      × (n + x .offset + x .sizes ≤ 268435456 → x .time + x .durations < 18446744073709551616 → closeSidx topmost span x f n ≡ done x f)
+      × ((n + x .sizes ≢ slot .end) ⊎ (f .now + x .durations ≢ slot .until) → closeSidx (under top slot depth) span x f n ≡ gives 12)
+      × (n + x .sizes ≡ slot .end → f .now + x .durations ≡ slot .until → closeSidx (under top slot depth) span x f n ≡ done x f)
+  unfolding closeSidx sumFaults shows unless lowest
+  sums-end top slot depth x = (
+    λ beyond. rw (past beyond),
+    λ near soon. rw (le-ltb 268435456 (n + x .offset + x .sizes) near, lt-leb 18446744073709551616 (x .time + x .durations) soon),
+    λ other. rw (apart other),
+    λ fills lasts. rw (eq-eqb (n + x .sizes) (slot .end) fills, eq-eqb (f .now + x .durations) (slot .until) lasts),
+  )
+    where
+      past : (268435456 < n + x .offset + x .sizes) ⊎ (18446744073709551616 ≤ x .time + x .durations) →
+          ltb 268435456 (n + x .offset + x .sizes) || leb 18446744073709551616 (x .time + x .durations) ≡ true
+      past (inl far) = rw (lt-ltb 268435456 (n + x .offset + x .sizes) far)
+      past (inr late) = rw (le-leb 18446744073709551616 (x .time + x .durations) late, or-true (ltb 268435456 (n + x .offset + x .sizes)))
+
+      apart : (n + x .sizes ≢ slot .end) ⊎ (f .now + x .durations ≢ slot .until) →
+          eqb (n + x .sizes) (slot .end) && eqb (f .now + x .durations) (slot .until) ≡ false
+      apart (inl sizes) = rw (ne-eqb (n + x .sizes) (slot .end) sizes)
+      apart (inr times) = rw (ne-eqb (f .now + x .durations) (slot .until) times, and-false (eqb (n + x .sizes) (slot .end)))
 
   -- Row 11, at the fourth byte of an entry: size 0 gives 11, whatever its type bit, and any other goes on.
   pub entry-size-ends : (p : Place) (s : Sums) (inner size : ℕ) → size < 2147483648 →

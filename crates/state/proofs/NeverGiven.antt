@@ -84,14 +84,14 @@ never-given r two = ⊎-elim (λ inside. absurd (not-inside inside two)) (λ bac
 
 -- A state that comes of a start by calls one after another. For none of them 2 is given.
 pub data Chain : State → Type 0 where
-  started : (brand : ℕ) → Chain (startOf brand)
-  fed : (before : State) (piece work table : List ℕ) → AllBytes piece → Chain before → Chain (feedOf before piece work table .state)
-  finished : (before : State) → Chain before → Chain (finishOf before .state)
+  chain-started : (brand : ℕ) → Chain (startOf brand)
+  chain-fed : (before : State) (piece work table : List ℕ) → AllBytes piece → Chain before → Chain (feedOf before piece work table .state)
+  chain-finished : (before : State) → Chain before → Chain (finishOf before .state)
 
 pub chain-in-range : {s : State} → Chain s → InRange s
-chain-in-range (started brand) = start-in-range brand
-chain-in-range (fed before piece work table bytes c) = feed-in-range before piece work table bytes (chain-in-range c)
-chain-in-range (finished before c) = finish-in-range before (chain-in-range c)
+chain-in-range (chain-started brand) = start-in-range brand
+chain-in-range (chain-fed before piece work table bytes c) = feed-in-range before piece work table bytes (chain-in-range c)
+chain-in-range (chain-finished before c) = finish-in-range before (chain-in-range c)
 
 pub chain-never-given : {s : State} → Chain s → GivesTwo s → ⊥
 chain-never-given c = not-inside (chain-in-range c)

@@ -42,7 +42,7 @@ use Rattle.onward.specs.Views.{viewStage}
 use Rattle.levels.specs.declared.EntryRead.{EntryRead}
 use Rattle.levels.specs.declared.EntryRead.the-variants as read
 use Rattle.levels.specs.Views.{readOf}
-use Rattle.stage.proofs.Entries.{chosen, refused}
+use Rattle.stage.proofs.Entries.{chosen, altered-told}
 use Rattle.numbers.specs.declared.AtHand.{AtHand}
 use Rattle.numbers.specs.Views.{isStored, nextPlace, told}
 use Rattle.step.specs.Answers.{answered, stepped}
@@ -95,7 +95,7 @@ module _ (s : Stage) (top : Top) (ls : Levels) (f : Flow) (x : Refusal) (r : Ent
     (k : r ≡ readOf (inmost ls) (entryAt (f .work) (entryPlace ls)) (f .now) limit) where
   pub altered-over : r ≡ read.Altered → refusal 12 limit ≡ overLimit s f limit x
   unfolding overLimit entryShows shows unless lowest
-  altered-over e = rw (same, refused _ _ _ (sym k ∙ e))
+  altered-over e = rw (same, altered-told _ _ _ (sym k ∙ e))
 
   pub stands-over : (inner : Bool) (slot : Slot) → r ≡ read.Stands inner slot → x ≡ overLimit s f limit x
   unfolding overLimit entryShows shows unless

@@ -11,8 +11,9 @@ use Rattle.state.specs.declared.State.{State}
 use Rattle.state.specs.declared.FeedAnswer.{FeedAnswer}
 use Rattle.state.specs.Calls.{Out, startOf, finishOf}
 use Rattle.state.specs.Parts.{Held, held, heldAfter, feedHeld, feedAll, joined}
+use Rattle.lookup.specs.Lookup.{lookupOf}
 use Rattle.demands.specs.Demands.{inParts}
-use Rattle.summit.specs.Contracts.{StartCall, FeedCall, FinishCall, pieceOf, leftBy, InOrder, SegmentRead}
+use Rattle.summit.specs.Contracts.{StartCall, FeedCall, FinishCall, LookupCall, pieceOf, InOrder, SegmentRead, timeAsked, tableLent}
 
 -- anything lent, wherever it stands
 lent : {X : Type 0} → X → RefT X
@@ -53,6 +54,12 @@ module _ (κs : Lfts 3) where
   unfolding feeding-all feeding lent InOrder feedAll
   fed-in-order [] h bytes = refl
   fed-in-order (part ∷ parts) h bytes = (refl, fed-in-order parts (heldAfter (feedHeld h part)) (bytes-second part (joined parts) bytes))
+
+  -- a time looked up, whatever the state and the table
+  pub looking : (s : State) (table : List ℕ) (t : ℕ) → (c : LookupCall) × (c .given .0 ≡ s) × (tableLent c ≡ table) × (timeAsked c ≡ t)
+  unfolding lent
+  looking s table t =
+      (record { lifetimes = (κs .0, tt); given = (s, (lent table, (t, tt))); result = lookupOf s table t; left = (tt, (tt, (tt, tt))); promised = λ met. refl }, refl, refl, refl)
 
   -- A segment is read, whatever its bytes and however they are cut.
   pub readable : (letters : List ℕ) (parts : List (List ℕ)) (work table : List ℕ) → AllBytes (joined parts) →

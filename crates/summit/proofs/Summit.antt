@@ -24,7 +24,7 @@ use Rattle.demands.specs.Demands.{Accepts, BeginsWith, inParts}
 use Rattle.lookup.specs.Lookup.{lookupOf}
 use Rattle.demands.proofs.Exact.{accepts-exactly, found, refused-exactly, before, past}
 use Rattle.demands.proofs.CutAnywhere.{cut-anywhere, accepted-long, accepted-belongs}
-use Rattle.summit.specs.Contracts.{FeedCall, FinishCall, LookupCall, pieceOf, givenTo, leftBy, InOrder, SegmentRead, timeAsked, tableLent}
+use Rattle.summit.specs.Contracts.{FeedCall, FinishCall, LookupCall, pieceOf, givenTo, heldBy, InOrder, SegmentRead, timeAsked, tableLent}
 use Rattle.summit.specs.DemandsMet.{TimeAnswered, AcceptedRead, DemandsMet}
 
 -- A call of feed: what it answers and leaves, and that its piece holds bytes.
@@ -36,9 +36,9 @@ in-order-held : (cs : List FeedCall) (before end : Held) → InOrder before cs e
 unfolding InOrder feedAll
 in-order-held [] before end e = sym e
 in-order-held (c ∷ cs) before end e =
-    let left : leftBy c ≡ heldAfter (feedHeld before (pieceOf c)) =
+    let left : heldBy c ≡ heldAfter (feedHeld before (pieceOf c)) =
     ap (λ (o : Out FeedAnswer). heldAfter o) (fed-as c .0) ∙ ap (λ (h : Held). heldAfter (feedHeld h (pieceOf c))) (e .0) in
-    in-order-held cs (leftBy c) end (e .1) ∙ ap (λ (h : Held). feedAll h (map pieceOf cs)) left
+    in-order-held cs (heldBy c) end (e .1) ∙ ap (λ (h : Held). feedAll h (map pieceOf cs)) left
 
 all-bytes : (cs : List FeedCall) → AllBytes (joined (map pieceOf cs))
 unfolding joined
@@ -95,7 +95,7 @@ module _ (brand : ℕ) (parts : List (List ℕ)) (work table : List ℕ) (o : Ou
   accepted k e =
       let listed : inParts brand parts work table .answer ≡ finishes.Listed k = sym (ap (λ (z : Out FinishAnswer). z .answer) read-is) ∙ e in
       let (ls, allowed, fits, accepts, belongs) = accepted-belongs brand parts work table read-bytes k listed in
-      let long : workBytes ≤ length work = accepted-long brand parts work table read-bytes k listed in
+      let long : workBytes ≤ length work = accepted-long brand parts work table k listed in
       record {
         leaves = ls;
         allowed = allowed;

@@ -53,13 +53,13 @@ pieceOf c = c .given .1 .0 .now
 abbrev pub givenTo : FeedCall → Held
 givenTo c = held (c .given .0) (c .given .1 .1 .0 .now) (c .given .1 .1 .1 .0 .now)
 
-abbrev pub leftBy : FeedCall → Held
-leftBy c = held (c .result .state) (c .left .1 .1 .0) (c .left .1 .1 .1 .0)
+abbrev pub heldBy : FeedCall → Held
+heldBy c = held (c .result .state) (c .left .1 .1 .0) (c .left .1 .1 .1 .0)
 
 -- calls of feed in order, each given what the one before left: from what is held before the first to what is held after the last
 unfoldable pub InOrder : Held → List FeedCall → Held → Type 0
 InOrder before [] end = before ≡ end
-InOrder before (c ∷ cs) end = (givenTo c ≡ before) × InOrder (leftBy c) cs end
+InOrder before (c ∷ cs) end = (givenTo c ≡ before) × InOrder (heldBy c) cs end
 
 -- A segment read: start, its parts fed in order with the two buffers, and finish, whatever the feeds answered; and what comes of it.
 pub record SegmentRead (brand : ℕ) (parts : List (List ℕ)) (work table : List ℕ) (o : Out FinishAnswer) : Type 0 where

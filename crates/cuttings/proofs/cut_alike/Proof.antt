@@ -7,7 +7,8 @@ use mathlib.Core.List.{List}
 use lib.ListN.{length}
 use Rattle.data.specs.Parts.{SameLevels}
 use Rattle.data.proofs.Alike.{both-taken, both-left}
-use Rattle.cuttings.specs.Readings.{Alike, SameNumbers, cutAt, cutFed}
+use Rattle.data.specs.Parts.{SameNumbers}
+use Rattle.cuttings.specs.Readings.{Alike, cutAt, cutFed}
 use borrow.Author.Needs.{needs}
 use Rattle.cuttings.proofs.cut_alike.Statement.{statement}
 use Rattle.cuttings.proofs.cut_alike.Tie as tie

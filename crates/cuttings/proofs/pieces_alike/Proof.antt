@@ -6,7 +6,8 @@ use mathlib.Core.Logic.{_↔_, ⊎-elim}
 use mathlib.Core.List.{List}
 use Rattle.data.proofs.Alike.{both-taken, both-left}
 use Rattle.cuttings.proofs.Pieces.{same-cut}
-use Rattle.cuttings.specs.Readings.{Alike, SameNumbers, inPieces, cutFed, lentWork, lentTable}
+use Rattle.data.specs.Parts.{SameNumbers}
+use Rattle.cuttings.specs.Readings.{Alike, inPieces, cutFed, lentWork, lentTable}
 use borrow.Author.Needs.{needs}
 use Rattle.cuttings.proofs.pieces_alike.Statement.{statement}
 use Rattle.cuttings.proofs.pieces_alike.Tie as tie

@@ -5,7 +5,8 @@ use mathlib.Core.List.{List}
 use native.Mathlib.Omega.{arith}
 use lib.ListN.{length}
 use borrow.Author.Tests.{lt-ltb, le-ltb, le-leb}
-use Rattle.data.specs.Parts.{levelPart, partOf, onlyIf}
+use Rattle.data.specs.Parts.{levelPart, bytesFrom}
+use Rattle.basics.specs.Choose.{pick}
 use borrow.Author.Needs.{needs}
 use Rattle.data.proofs.buffers.level_part.Statement.{statement}
 use Rattle.data.proofs.buffers.level_part.Tie as tie
@@ -23,16 +24,16 @@ part-requires-2 : tie.Need-part-requires-2
 part-requires-2 c κs = search needs
 
 returns : tie.Need-returns
-unfolding levelPart onlyIf
+unfolding levelPart pick
 returns c =
     let n = c .before .before .before .before .args .n in
-    simp (lt-ltb _ _ (c .before .before .if1 .taken)) (c .part2 .ensures ∙ ap (λ (l : List ℕ). partOf l 0 n) (c .before .part .ensures))
+    simp (lt-ltb _ _ (c .before .before .if1 .taken)) (c .part2 .ensures ∙ ap (λ (l : List ℕ). bytesFrom l 0 n) (c .before .part .ensures))
 
 part-requires-3 : tie.Need-part-requires-3
 part-requires-3 c κs = search needs
 
 returns-2 : tie.Need-returns-2
-unfolding levelPart partOf onlyIf
+unfolding levelPart bytesFrom pick
 returns-2 c =
     let w = c .before .before .before .args .work .now in
     simp (le-ltb _ _ (c .before .if1 .left)) (c .part3 .ensures ∙ simp (le-leb 0 (length w) (omega arith)))

@@ -1,7 +1,8 @@
 -- `trial::alike::answers_at` meets its contract: by those of `over_by`, `fed_refused` and `fed_read`.
 use mathlib.Core.Path.{_≡_, sym, _∙_}
 use mathlib.Core.Bool.{true, false}
-use Rattle.trial.specs.Ends.{overBy, answerAt, refusedIf}
+use Rattle.trial.specs.Ends.{overBy, answerAt}
+use Rattle.basics.specs.Choose.{pick}
 use borrow.Author.Needs.{needs}
 use Rattle.trial.proofs.alike.answers_at.Statement.{statement}
 use Rattle.trial.proofs.alike.answers_at.Tie as tie
@@ -13,7 +14,7 @@ fed-refused-requires : tie.Need-fed-refused-requires
 fed-refused-requires c κs = search needs
 
 returns : tie.Need-returns
-unfolding answerAt refusedIf
+unfolding answerAt pick
 returns c =
     let s = c .before .before .before .before .args in
     let h : overBy (s .k) (s .end) ≡ true = sym (c .before .before .before .over-by .ensures) ∙ c .before .before .if1 .taken in
@@ -23,7 +24,7 @@ fed-read-requires : tie.Need-fed-read-requires
 fed-read-requires c κs = search needs
 
 returns-2 : tie.Need-returns-2
-unfolding answerAt refusedIf
+unfolding answerAt pick
 returns-2 c =
     let s = c .before .before .before .args in
     let h : overBy (s .k) (s .end) ≡ false = sym (c .before .before .over-by .ensures) ∙ c .before .if1 .left in

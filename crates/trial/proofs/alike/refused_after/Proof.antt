@@ -4,12 +4,13 @@ use mathlib.Core.Bool.{true, false}
 use mathlib.Core.Logic.{⊎-elim}
 use lib.Dec.{eqb}
 use borrow.Author.Tests.{eq-eqb, ne-eqb}
-use Rattle.trial.specs.Ends.{refusedAfter, onlyIf}
+use Rattle.trial.specs.Ends.{refusedAfter}
+use Rattle.basics.specs.Choose.{pick}
 use Rattle.trial.proofs.alike.refused_after.Statement.{statement}
 use Rattle.trial.proofs.alike.refused_after.Tie as tie
 
 returns : tie.Need-returns
-unfolding refusedAfter onlyIf
+unfolding refusedAfter pick
 returns c =
     let l = c .before .before .before .before .args .end .left in
     ⊎-elim
@@ -18,7 +19,7 @@ returns c =
     (c .if1 .came)
 
 returns-2 : tie.Need-returns-2
-unfolding refusedAfter onlyIf
+unfolding refusedAfter pick
 returns-2 c =
     let l = c .before .before .before .before .before .before .args .end .left in
     let h = eq-eqb (l .outcome) 2 (c .before .before .if1 .left) in
