@@ -1,7 +1,7 @@
 #!/usr/bin/env python3
-"""Each wrong answer listed in docs/PROMISES.md is refused in the function or the theorem that its row names.
+"""Each wrong answer listed in docs/EDITS.md is refused in the function or the theorem that its row names.
 
-It reads the tables of docs/PROMISES.md that begin with a column "edit", and the logs that `rt ci` or `rt must-fail` left.
+It reads the tables of docs/EDITS.md that begin with a column "edit", and the logs that `rt ci` or `rt must-fail` left.
 Words given are crates: only the edits of these are looked at, and all others need no log.
 
 A row is `crate`: `edit`, `edit` | wrong answers | refused in. In the last column each edit has its part, parted by `;`, or one part
@@ -36,7 +36,7 @@ def names(text):
 def rows():
     """Each row of a table whose first column is "edit", as its cells."""
     inside = False
-    for line in (ROOT / "docs/PROMISES.md").read_text(encoding="utf-8").splitlines():
+    for line in (ROOT / "docs/EDITS.md").read_text(encoding="utf-8").splitlines():
         if not line.startswith("|"):
             inside = False
             continue
@@ -125,7 +125,7 @@ def misplaced(crate, edit):
 def check(crate, edit, lists):
     """What is wrong with an edit, given the names that each of its rows has."""
     if told(crate, edit) != len(lists):
-        yield f"it has {told(crate, edit)} wrong answers, and docs/PROMISES.md lists {len(lists)}"
+        yield f"it has {told(crate, edit)} wrong answers, and docs/EDITS.md lists {len(lists)}"
     for line in misplaced(crate, edit):
         yield f"it changes a proof or a contract: {line}"
     out = ROOT / "target/must-fail" / crate / f"{edit}.res"
@@ -149,10 +149,10 @@ def main(crates):
             for crate, edit, part in wanted(cells):
                 listed.setdefault((crate, edit), []).append(part)
         except ValueError as fault:
-            faults.append(f"docs/PROMISES.md: {fault}")
+            faults.append(f"docs/EDITS.md: {fault}")
     there = {(f.parts[-3], f.stem) for f in (ROOT / "crates").glob("*/must-fail/*.edit")}
-    faults += [f"{crate}/{edit}: docs/PROMISES.md does not list it" for crate, edit in sorted(there - set(listed))]
-    faults += [f"{crate}/{edit}: docs/PROMISES.md lists it, and there is no such edit" for crate, edit in sorted(set(listed) - there)]
+    faults += [f"{crate}/{edit}: docs/EDITS.md does not list it" for crate, edit in sorted(there - set(listed))]
+    faults += [f"{crate}/{edit}: docs/EDITS.md lists it, and there is no such edit" for crate, edit in sorted(set(listed) - there)]
     looked = [key for key in sorted(there & set(listed)) if not crates or key[0] in crates]
     for crate, edit in looked:
         faults += [f"{crate}/{edit}: {fault}" for fault in check(crate, edit, listed[crate, edit])]
@@ -160,7 +160,7 @@ def main(crates):
         print(f"edits_refused: {fault}")
     if not faults:
         count = sum(len(listed[key]) for key in looked)
-        print(f"edits_refused: {len(looked)} edits, {count} wrong answers, each refused where docs/PROMISES.md says")
+        print(f"edits_refused: {len(looked)} edits, {count} wrong answers, each refused where docs/EDITS.md says")
     return 1 if faults else 0
 
 
