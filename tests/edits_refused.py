@@ -7,10 +7,11 @@ Words given are crates: only the edits of these are looked at, and all others ne
 A row is `crate`: `edit`, `edit` | wrong answers | refused in. In the last column each edit has its part, parted by `;`, or one part
 holds for all. A part names functions of the crate, or a module and its theorems; each of them has to be refused by itself:
 
-- a function: an error in its own proof file, or `search` that does not close one of its needs;
+- a function: what it returns, or what its loop keeps, is refused in its own proof file, or `search` does not close it there;
 - a theorem: an error at it in its module.
 
-An error that says only that something else was not admitted does not count, and neither does a call of what is not proved.
+An error that says only that something else was not admitted does not count, and neither does a call of what is not proved, nor a
+bound that fails: a read out of range or a sum that wraps is no answer.
 An edit that breaks the shape of the code or of a definition fails, whatever else its log shows.
 """
 import pathlib
@@ -23,6 +24,8 @@ ERROR = re.compile(r"^(.*?):\d+:\d+: error: (?:`([^`]+)`: )?(.*)$")
 FUNCTION = re.compile(r"^fn (\S+): (.*)$")
 FOLLOWS = re.compile(r"^`[^`]+` (was not admitted|cannot be unfolded because it was not admitted)")
 UNCLOSED = "`search` does not close"
+# The needs that speak of a function's answer: what it returns, and what a loop keeps on the way to it.
+ANSWER = re.compile(r"(returns|loop\d*-(holds|again))(-\d+)?")
 # What a log says where an operation or a branch is gone or new, or a name, a case or a type of a definition does not stand.
 BROKEN = ("Need-", "is not in scope", "has no field", "that can be named from here", "has no clause")
 
@@ -48,17 +51,17 @@ def rows():
 
 
 def wanted(cells):
-    """(crate, edit, the names that refuse it), for each edit of a row."""
+    """(crate, edit, the function that the row is of, the names that refuse it), for each edit of a row."""
     first, answers, last = cells
     where, _, edits = first.partition(":")
-    crate, edits, parts = names(where)[0], names(edits), last.split(";")
+    (crate, *function), edits, parts = names(where), names(edits), last.split(";")
     if len(answers.split(";")) not in (1, len(edits)):
         raise ValueError(f"{len(edits)} edits, and {len(answers.split(';'))} wrong answers: {first}")
     if len(parts) not in (1, len(edits)):
         raise ValueError(f"{len(edits)} edits, and {len(parts)} parts of \"refused in\": {first}")
     if len(parts) == 1:
         parts = parts * len(edits)
-    return [(crate, edit, names(part)) for edit, part in zip(edits, parts)]
+    return [(crate, edit, function, names(part)) for edit, part in zip(edits, parts)]
 
 
 class Log:
@@ -67,7 +70,8 @@ class Log:
     def __init__(self, crate, edit):
         self.errors, self.functions, self.broken = set(), {}, []
         here = f"target/must-fail/{crate}/{edit}/"
-        for line in (ROOT / here / ".log").read_text(encoding="utf-8", errors="replace").splitlines():
+        self.folder = ROOT / here
+        for line in (self.folder / ".log").read_text(encoding="utf-8", errors="replace").splitlines():
             function, error = FUNCTION.match(line), ERROR.match(line)
             if function:
                 self.functions[function[1]] = function[2]
@@ -90,8 +94,14 @@ class Log:
             return False
         said = self.functions[found[0]]
         *path, last = found[0].split("::")[1:]
-        own = [f for f, _ in self.errors if f.split("/")[1:-2] == path and last in f.split("/")[-2].split("+")]
-        return said != "proved" and (UNCLOSED in said or bool(own))
+        own = {self.need(f, d) for f, d in self.errors if f.split("/")[1:-2] == path and last in f.split("/")[-2].split("+")}
+        own |= set(re.findall(r"`([^`]+)`", said.partition(UNCLOSED)[2]))
+        return said != "proved" and any(need is None or ANSWER.fullmatch(need) for need in own)
+
+    def need(self, file, declaration):
+        """The need that a declaration of a function's proof answers; none where it is a lemma of that proof."""
+        answers = re.search(rf"^{re.escape(declaration)} : \S*\bNeed-(\S+)", (self.folder / file).read_text(encoding="utf-8"), re.M)
+        return answers and answers[1]
 
     def theorem(self, module, name):
         return any(f.endswith(f"/{module}.antt") and d == name for f, d in self.errors)
@@ -112,20 +122,29 @@ def text_of(crate, edit):
 
 
 def told(crate, edit):
-    """How many wrong answers an edit has: the comments in it."""
-    return sum(line.startswith("#") for line in text_of(crate, edit))
+    """The wrong answers of an edit: the comments in it. One of several begins with the function that it is of."""
+    return [line[1:].strip() for line in text_of(crate, edit) if line.startswith("#")]
 
 
 def misplaced(crate, edit):
     """Lines of an edit that change a proof or a contract, and so no answer."""
-    proofs = [line for line in text_of(crate, edit) if line.startswith("file: proofs/")]
-    return proofs + [line for line in text_of(crate, edit) if line.startswith("old:") and "⌜" in line]
+    text = ""
+    for line in text_of(crate, edit):
+        key, _, words = line.partition(": ")
+        if key == "file":
+            text = (ROOT / "crates" / crate / words).read_text(encoding="utf-8")
+        before = text.partition(words)[0] if key == "old" else ""
+        if line.startswith("file: proofs/") or key in ("old", "new") and "⌜" in words or before.count("⌜") != before.count("⌝"):
+            yield line
 
 
-def check(crate, edit, lists):
-    """What is wrong with an edit, given the names that each of its rows has."""
-    if told(crate, edit) != len(lists):
-        yield f"it has {told(crate, edit)} wrong answers, and docs/EDITS.md lists {len(lists)}"
+def check(crate, edit, listed):
+    """What is wrong with an edit, given of each of its rows the function that it is of, and the names in it."""
+    comments, lists = told(crate, edit), [part for _, part in listed]
+    if len(comments) != len(lists):
+        yield f"it has {len(comments)} wrong answers, and docs/EDITS.md lists {len(lists)}"
+    if len(comments) > 1 and sorted(c.partition(":")[0] for c in comments) != sorted(f for function, _ in listed for f in function):
+        yield "its wrong answers are not of the functions that docs/EDITS.md lists"
     for line in misplaced(crate, edit):
         yield f"it changes a proof or a contract: {line}"
     out = ROOT / "target/must-fail" / crate / f"{edit}.res"
@@ -146,8 +165,8 @@ def main(crates):
     faults, listed = [], {}
     for cells in rows():
         try:
-            for crate, edit, part in wanted(cells):
-                listed.setdefault((crate, edit), []).append(part)
+            for crate, edit, function, part in wanted(cells):
+                listed.setdefault((crate, edit), []).append((function, part))
         except ValueError as fault:
             faults.append(f"docs/EDITS.md: {fault}")
     there = {(f.parts[-3], f.stem) for f in (ROOT / "crates").glob("*/must-fail/*.edit")}
