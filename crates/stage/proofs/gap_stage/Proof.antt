@@ -1,3 +1,4 @@
+-- `stage::gap_stage` meets its contract, by those of `gap_byte` and `gap_after`, and by the law `gap-step`.
 use mathlib.Core.Path.{ap, _∙_}
 use Rattle.onward.specs.Views.{flowing}
 use Rattle.onward.specs.Arms.{liftGap}
@@ -13,7 +14,12 @@ gap-after-requires : tie.Need-gap-after-requires
 gap-after-requires c κs = search needs
 
 returns : tie.Need-returns
-returns c = λ work table. c .gap-after .ensures work table ∙ ap (liftGap (c .before .before .args .top) (c .before .before .args .level) (c .before .before .args .end)) (c .before .gap-byte .ensures (flowing (c .before .before .args .r) work table)) ∙ gap-step (c .before .before .args .top) (c .before .before .args .level) (c .before .before .args .end) _ _ _ _
+returns c =
+    let stepped = c .before in
+    let a = stepped .before .args in
+    λ work table. c .gap-after .ensures work table
+    ∙ ap (liftGap (a .top) (a .level) (a .end)) (stepped .gap-byte .ensures (flowing (a .r) work table))
+    ∙ gap-step (a .top) (a .level) (a .end) _ _ _ _
 
 pub gap-stage-spec : {M : Type 1} → statement M
 gap-stage-spec = tie.close (tie.spec gap-byte-requires gap-after-requires returns)

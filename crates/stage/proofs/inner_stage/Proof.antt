@@ -1,3 +1,4 @@
+-- `stage::inner_stage` meets its contract, by those of `depth`, `inner_byte` and `inner_after`, and by the laws `inner-within` and `inner-law`.
 use Rattle.stage.proofs.Entries.{inner-within, inner-law}
 use borrow.Author.Needs.{needs}
 use Rattle.stage.proofs.inner_stage.Statement.{statement}
@@ -7,7 +8,11 @@ depth-requires : tie.Need-depth-requires
 depth-requires c κs = search needs
 
 inner-byte-requires : tie.Need-inner-byte-requires
-inner-byte-requires c κs = (inner-within (c .before .before .before .args .ls) _ (c .before .before .before .args .s) (c .before .depth .ensures) (c .before .before .before .pre .3), c .before .before .before .pre .2, c .before .before .before .pre .0, c .before .before .before .pre .1)
+inner-byte-requires c κs =
+    let deep = c .before in
+    let start = deep .before .before in
+    let a = start .args in
+    (inner-within (a .ls) _ (a .s) (deep .depth .ensures) (start .pre .3), start .pre .2, start .pre .0, start .pre .1)
 
 inner-after-requires : tie.Need-inner-after-requires
 inner-after-requires c κs = search needs
@@ -16,7 +21,12 @@ same-length : tie.Need-same-length
 same-length c = search needs
 
 returns : tie.Need-returns
-returns c = inner-law (c .before .before .before .before .before .before .before .args .top) (c .before .before .before .before .before .before .before .args .ls) (c .before .before .before .before .before .before .before .args .slot) (c .before .before .before .before .before .before .before .args .r) (c .before .before .before .before .before .before .before .args .s) (c .before .before .before .before .before .before .before .args .n) (c .before .before .before .before .before .before .before .args .b) _ _ _ (c .before .before .before .inner-byte .result) (c .inner-after .result) (c .before .before .before .before .before .depth .ensures) (c .inner-after .ensures) (c .before .before .before .inner-byte .ensures)
+returns c =
+    let stepped = c .before .before .before in
+    let deep = stepped .before .before in
+    let a = deep .before .before .args in
+    inner-law (a .top) (a .ls) (a .slot) (a .r) (a .s) (a .n) (a .b) _ _ _ (stepped .inner-byte .result) (c .inner-after .result) (deep .depth .ensures) (c .inner-after .ensures)
+    (stepped .inner-byte .ensures)
 
 pub inner-stage-spec : {M : Type 1} → statement M
 inner-stage-spec =

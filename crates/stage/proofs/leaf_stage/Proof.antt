@@ -1,3 +1,4 @@
+-- `stage::leaf_stage` meets its contract, by those of `no_room`, `leaf_byte`, `row_after` and `leaf_after`, and by the law `leaf-step`.
 use mathlib.Core.Path.{refl, sym}
 use Rattle.onward.specs.Views.{flowing}
 use Rattle.stage.proofs.Steps.{leaf-step}
@@ -21,7 +22,14 @@ same-length : tie.Need-same-length
 same-length c = search needs
 
 returns : tie.Need-returns
-returns c = λ work. leaf-step (c .before .before .before .before .before .before .before .before .args .top) (c .before .before .before .before .before .before .before .before .args .ls) (c .before .before .before .before .before .before .before .before .args .slot) (c .before .before .before .before .before .before .before .before .args .r) work (c .before .before .before .before .before .before .before .before .args .table .now) (c .before .before .before .before .before .before .before .before .args .s) (c .before .before .before .before .before .before .before .before .args .n) (c .before .before .before .before .before .before .before .before .args .b) (c .before .before .before .before .before .leaf-byte .result) _ (c .leaf-after .result) (c .before .before .before .row-after .ensures) (c .leaf-after .ensures work _) (c .before .before .before .before .before .leaf-byte .ensures (flowing (c .before .before .before .before .before .before .before .before .args .r) work (c .before .before .before .before .before .before .before .before .args .table .now)) (sym (c .before .before .before .before .before .before .no-room .ensures _ refl)))
+returns c =
+    let at-row-after = c .before .before .before in
+    let stepped = at-row-after .before .before in
+    let at-no-room = stepped .before in
+    let a = at-no-room .before .before .args in
+    λ work. leaf-step (a .top) (a .ls) (a .slot) (a .r) work (a .table .now) (a .s) (a .n) (a .b) (stepped .leaf-byte .result) _ (c .leaf-after .result)
+    (at-row-after .row-after .ensures) (c .leaf-after .ensures work _)
+    (stepped .leaf-byte .ensures (flowing (a .r) work (a .table .now)) (sym (at-no-room .no-room .ensures _ refl)))
 
 pub leaf-stage-spec : {M : Type 1} → statement M
 leaf-stage-spec =

@@ -1,3 +1,4 @@
+-- `stage::opening_stage` meets its contract, by those of `opening_byte` and `opening_after`, and by the laws `ends-in` and `opening-step`.
 use mathlib.Core.List.{[]}
 use Prim.Native.Nat.{_+_}
 use mathlib.Core.Path.{ap, _∙_}
@@ -15,13 +16,19 @@ add-opening-after : tie.Need-add-opening-after
 add-opening-after c = search needs
 
 opening-after-requires : tie.Need-opening-after-requires
-opening-after-requires c κs = ends-in (c .before .before .before .before .before .args .brand) (c .before .before .before .before .before .args .s) _ _ (c .before .before .before .before .before .args .n) (c .before .before .before .before .before .args .b) (c .before .before .opening-byte .result) (c .before .before .opening-byte .ensures 0 0 0 [])
+opening-after-requires c κs =
+    let stepped = c .before .before in
+    let a = stepped .before .before .before .args in
+    ends-in (a .brand) (a .s) _ _ (a .n) (a .b) (stepped .opening-byte .result) (stepped .opening-byte .ensures 0 0 0 [])
 
 same-length : tie.Need-same-length
 same-length c = search needs
 
 returns : tie.Need-returns
-returns c = λ table. c .opening-after .ensures _ table ∙ ap (liftOpening (c .before .before .before .before .before .before .args .brand) (c .before .before .before .before .before .before .args .n + 1)) (c .before .before .before .opening-byte .ensures _ _ _ table) ∙ opening-step _ _ _ _ _
+returns c =
+    let stepped = c .before .before .before in
+    let a = stepped .before .before .before .args in
+    λ table. c .opening-after .ensures _ table ∙ ap (liftOpening (a .brand) (a .n + 1)) (stepped .opening-byte .ensures _ _ _ table) ∙ opening-step _ _ _ _ _
 
 pub opening-stage-spec : {M : Type 1} → statement M
 opening-stage-spec =
