@@ -16,9 +16,11 @@ past-limit-requires c κs = search needs
 
 returns : tie.Need-returns
 returns c =
-    let a = c .before .before .before .args in
-    λ work table. ap (λ (q : State). left-with q work table) (c .past-limit .ensures ∙ ap (state.Refused 268435457 (a .leaves)) (c .before .over-limit .ensures))
-    ∙ ended-past (a .n) (a .leaves) (a .b) (a .top) work table (c .before .before .if1 .taken)
+    let at-over-limit = c .before in
+    let test = at-over-limit .before in
+    let a = test .before .args in
+    λ work table. ap (λ (q : State). left-with q work table) (c .past-limit .ensures ∙ ap (state.Refused 268435457 (a .leaves)) (at-over-limit .over-limit .ensures))
+    ∙ ended-past (a .n) (a .leaves) (a .b) (a .top) work table (test .if1 .taken)
 
 add-t7 : tie.Need-add-t7
 add-t7 c = search needs

@@ -19,10 +19,13 @@ same-length c = search needs
 
 returns : tie.Need-returns
 returns c =
-    let a = c .before .before .before .before .before .before .before .before .args in
-    let row = c .before .before .before .before .before .limit-row .ensures in
-    let kept = c .before .before .before .store-byte .ensures in
-    λ table. reading-past limit (a .r .leaves) (a .r .now) (a .r .last) (a .b) (a .s) (a .work .now) table _ _ _ (row (a .r .leaves) (a .r .last) table) kept (c .past-limit .ensures)
+    let stepped = c .before .before .before in
+    let at-limit-row = stepped .before .before in
+    let a = at-limit-row .before .before .before .args in
+    let row = at-limit-row .limit-row .ensures in
+    let kept = stepped .store-byte .ensures in
+    λ table. reading-past limit (a .r .leaves) (a .r .now) (a .r .last) (a .b) (a .s) (a .work .now) table _ _ _ (row (a .r .leaves) (a .r .last) table) kept
+    (c .past-limit .ensures)
 
 pub limit-byte-spec : {M : Type 1} → statement M
 limit-byte-spec =

@@ -21,8 +21,9 @@ returns c =
 
 read-back-requires : tie.Need-read-back-requires
 read-back-requires c κs =
-    let d = c .before .before .before .before .before in
-    let inside = entry-inside (d .args .s) _ _ (d .args .at) (c .before .s .given .1) (d .pre .1) in
+    let arm = c .before in
+    let d = arm .before .before .before .before in
+    let inside = entry-inside (d .args .s) _ _ (d .args .at) (arm .s .given .1) (d .pre .1) in
     (d .pre .0, inside .0, inside .1)
 
 enum-told : tie.Need-enum-told
@@ -33,16 +34,22 @@ enum-told-2 c = search needs
 
 returns-2 : tie.Need-returns-2
 returns-2 c =
-    let a = c .before .before .before .before .before .before .before .before .args in
-    let is-entry = c .before .before .before .before .s .given .1 in
-    λ leaves last table. altered-over (a .s) _ _ (flowOf leaves (a .at) last (a .work .now) table) (refusal 3 limit) _ is-entry (c .before .before .read-back .ensures) (c .enum-told2 .given .1)
+    let at-read-back = c .before .before in
+    let arm = at-read-back .before .before in
+    let a = arm .before .before .before .before .args in
+    let is-entry = arm .s .given .1 in
+    λ leaves last table. altered-over (a .s) _ _ (flowOf leaves (a .at) last (a .work .now) table) (refusal 3 limit) _ is-entry (at-read-back .read-back .ensures)
+    (c .enum-told2 .given .1)
 
 returns-3 : tie.Need-returns-3
 returns-3 c =
-    let a = c .before .before .before .before .before .before .before .before .args in
-    let is-entry = c .before .before .before .before .s .given .1 in
-    λ leaves last table. c .before .before .before .before .before .before .over-limit .ensures
-    ∙ stands-over (a .s) _ _ (flowOf leaves (a .at) last (a .work .now) table) (refusal 3 limit) _ is-entry (c .before .before .read-back .ensures) _ _ (c .enum-told .given .1)
+    let at-read-back = c .before .before in
+    let arm = at-read-back .before .before in
+    let at-over-limit = arm .before .before in
+    let a = at-over-limit .before .before .args in
+    let is-entry = arm .s .given .1 in
+    λ leaves last table. at-over-limit .over-limit .ensures
+    ∙ stands-over (a .s) _ _ (flowOf leaves (a .at) last (a .work .now) table) (refusal 3 limit) _ is-entry (at-read-back .read-back .ensures) _ _ (c .enum-told .given .1)
 
 pub limit-row-spec : {M : Type 1} → statement M
 limit-row-spec =

@@ -16,16 +16,19 @@ same-length c = search needs
 
 returns : tie.Need-returns
 returns c =
-    let a = c .before .before .before .before .before .before .before .args in
-    let at-limit = c .before .before .before .before .if1 .taken in
-    reading-limit (a .n) (a .r .leaves) (a .r .now) (a .r .last) (a .b) (a .s) (a .work .now) (a .table .now) _ at-limit (c .before .before .limit-byte .ensures (a .table .now))
+    let stepped = c .before .before in
+    let test = stepped .before .before in
+    let a = test .before .before .before .args in
+    let at-limit = test .if1 .taken in
+    reading-limit (a .n) (a .r .leaves) (a .r .now) (a .r .last) (a .b) (a .s) (a .work .now) (a .table .now) _ at-limit (stepped .limit-byte .ensures (a .table .now))
 
 stage-byte-requires : tie.Need-stage-byte-requires
 stage-byte-requires c κs =
-    let d = c .before .before .before .before .before in
+    let test = c .before .before in
+    let d = test .before .before .before in
     let a = d .args in
     let count = reading-count (a .n) (a .r .leaves) (a .r .now) (a .r .last) (a .s) (d .pre .1) in (
-      omega (arith, c .before .before .if1 .left, count),
+      omega (arith, test .if1 .left, count),
       d .pre .0,
       reading-leaves (a .n) (a .r .leaves) (a .r .now) (a .r .last) (a .s) (d .pre .1),
       reading-stage (a .n) (a .r .leaves) (a .r .now) (a .r .last) (a .s) (d .pre .1),
@@ -33,7 +36,8 @@ stage-byte-requires c κs =
 
 state-after-requires : tie.Need-state-after-requires
 state-after-requires c κs =
-    let d = c .before .before .before .before .before .before .before .before .before .before in
+    let stepped = c .before .before .before .before in
+    let d = stepped .before .before .before .before .before .before in
     let a = d .args in
     reading-count (a .n) (a .r .leaves) (a .r .now) (a .r .last) (a .s) (d .pre .1)
 
@@ -45,12 +49,14 @@ same-length-3 c = search needs
 
 returns-2 : tie.Need-returns-2
 returns-2 c =
-    let d = c .before .before .before .before .before .before .before .before .before .before .before in
+    let stepped = c .before .before .before .before .before in
+    let test = stepped .before .before .before in
+    let d = test .before .before .before in
     let a = d .args in
-    let q = c .before .before .before .before .before .stage-byte in
+    let q = stepped .stage-byte in
     let count = reading-count (a .n) (a .r .leaves) (a .r .now) (a .r .last) (a .s) (d .pre .1) in
     reading-one (a .n) (a .r .leaves) (a .r .now) (a .r .last) (a .b) (a .s) _ _ (q .result) _ _ (c .state-after .result)
-    (omega (arith, c .before .before .before .before .before .before .before .before .if1 .left, count)) (q .ensures) (c .state-after .ensures)
+    (omega (arith, test .if1 .left, count)) (q .ensures) (c .state-after .ensures)
 
 pub reading-byte-spec : {M : Type 1} → statement M
 reading-byte-spec =

@@ -1,3 +1,4 @@
+-- `step::state_after` meets its contract, by the definition of `stepped`.
 use mathlib.Core.Path.{ap, sym}
 use Rattle.onward.specs.declared.StageStep.{StageStep}
 use Rattle.step.specs.Answers.{stepped}
@@ -19,15 +20,24 @@ enum-known-q-3 c = search needs
 
 returns : tie.Need-returns
 unfolding stepped
-returns c = sym (ap (λ (q : StageStep). stepped (c .before .before .before .args .n) (c .before .before .before .args .leaves) q) (c .before .q .given .1))
+returns c =
+    let arm = c .before in
+    let a = arm .before .before .args in
+    sym (ap (λ (q : StageStep). stepped (a .n) (a .leaves) q) (arm .q .given .1))
 
 returns-2 : tie.Need-returns-2
 unfolding stepped
-returns-2 c = sym (ap (λ (q : StageStep). stepped (c .before .before .before .args .n) (c .before .before .before .args .leaves) q) (c .before .q2 .given .1))
+returns-2 c =
+    let arm = c .before in
+    let a = arm .before .before .args in
+    sym (ap (λ (q : StageStep). stepped (a .n) (a .leaves) q) (arm .q2 .given .1))
 
 returns-3 : tie.Need-returns-3
 unfolding stepped
-returns-3 c = sym (ap (λ (q : StageStep). stepped (c .before .before .before .args .n) (c .before .before .before .args .leaves) q) (c .before .q3 .given .1))
+returns-3 c =
+    let arm = c .before in
+    let a = arm .before .before .args in
+    sym (ap (λ (q : StageStep). stepped (a .n) (a .leaves) q) (arm .q3 .given .1))
 
 pub state-after-spec : {M : Type 1} → statement M
 state-after-spec =

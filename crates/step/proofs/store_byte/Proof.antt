@@ -11,14 +11,16 @@ stage-number-requires c κs = search needs
 
 returns : tie.Need-returns
 returns c =
-    let a = c .before .before .before .before .args in
-    let x = c .before .before .stage-number in
+    let at-stage-number = c .before .before in
+    let a = at-stage-number .before .before .args in
+    let x = at-stage-number .stage-number in
     byte-unstored (a .s) (x .result) (x .ensures) (a .b) (a .work .now) (not-true (x .result .stored) (c .if1 .taken))
 
 slice-write-work : tie.Need-slice-write-work
 slice-write-work c =
-    let d = c .before .before .before .before in
-    let x = c .before .before .stage-number in
+    let at-stage-number = c .before .before in
+    let d = at-stage-number .before .before in
+    let x = at-stage-number .stage-number in
     omega (arith, d .pre .0, byte-fits (d .args .s) (x .result) (x .ensures) (d .args .at) (not-false (x .result .stored) (c .if1 .left)) (d .pre .1))
 
 same-length : tie.Need-same-length
@@ -26,8 +28,9 @@ same-length c = search needs
 
 returns-2 : tie.Need-returns-2
 returns-2 c =
-    let a = c .before .before .before .before .args in
-    let x = c .before .before .stage-number in
+    let at-stage-number = c .before .before in
+    let a = at-stage-number .before .before .args in
+    let x = at-stage-number .stage-number in
     byte-stored (a .s) (x .result) (x .ensures) (a .b) (a .work .now) (not-false (x .result .stored) (c .if1 .left))
 
 pub store-byte-spec : {M : Type 1} → statement M
