@@ -1,3 +1,5 @@
+-- `inner::inner_byte` meets its contract, by those of `head_byte`, `inner_head`, `index_byte` and `inner_index`, by the laws `inner-head-step` and
+-- `inner-body-step`, and by the definition of `boxBounds`.
 use Prim.Native.Nat.{suc}
 use mathlib.Core.Path.{ap, subst, _∙_}
 use Rattle.state.specs.Calls.{flowOf}
@@ -14,10 +16,13 @@ enum-known-s c = search needs
 
 head-byte-requires : tie.Need-head-byte-requires
 unfolding boxBounds
-head-byte-requires c κs = (
-  subst (λ (q : InnerBox). Within (boxBounds (c .before .before .before .before .args .depth) q)) (c .before .s .given .1) (c .before .before .before .before .pre .0),
-  c .before .before .before .before .pre .2,
-)
+head-byte-requires c κs =
+    let arm = c .before in
+    let start = arm .before .before .before in
+    let a = start .args in (
+      subst (λ (q : InnerBox). Within (boxBounds (a .depth) q)) (arm .s .given .1) (start .pre .0),
+      start .pre .2,
+    )
 
 inner-head-requires : tie.Need-inner-head-requires
 inner-head-requires c κs = search needs
@@ -27,28 +32,40 @@ enum-known-s-2 c = search needs
 
 index-byte-requires : tie.Need-index-byte-requires
 unfolding boxBounds
-index-byte-requires c κs = let w = subst (λ (q : InnerBox). Within (boxBounds (c .before .before .before .before .before .args .depth) q)) (c .before .before .s2 .given .1) (c .before .before .before .before .before .pre .0) in
-    (w .0, c .before .before .before .before .before .pre .1, w .1, c .before .before .before .before .before .pre .2, c .before .before .before .before .before .pre .3)
+index-byte-requires c κs =
+    let arm = c .before .before in
+    let start = arm .before .before .before in
+    let a = start .args in
+    let w = subst (λ (q : InnerBox). Within (boxBounds (a .depth) q)) (arm .s2 .given .1) (start .pre .0) in
+    (w .0, start .pre .1, w .1, start .pre .2, start .pre .3)
 
 inner-index-requires : tie.Need-inner-index-requires
 inner-index-requires c κs = search needs
 
 returns : tie.Need-returns
-returns c = λ leaves last table.
-    rw (c .before .before .before .s .given .1)
-    (c .inner-head .ensures (c .before .before .before .before .before .before .args .top) (suc (c .before .before .before .before .before .before .args .n)) (flowOf leaves (c .before .before .before .before .before .before .args .at) last _ table)
-    ∙ ap (headInner (c .before .before .before .before .before .before .args .top) (c .before .before .before .before .before .before .args .slot) (c .before .before .before .before .before .before .args .depth) (suc (c .before .before .before .before .before .before .args .n))) (c .before .head-byte .ensures (flowOf leaves (c .before .before .before .before .before .before .args .at) last _ table))
-    ∙ inner-head-step (c .before .before .before .before .before .before .args .top) _ _ _ _ _ _)
+returns c =
+    let headed = c .before in
+    let arm = headed .before .before in
+    let a = arm .before .before .before .args in
+    λ leaves last table.
+    rw (arm .s .given .1)
+    (c .inner-head .ensures (a .top) (suc (a .n)) (flowOf leaves (a .at) last _ table)
+    ∙ ap (headInner (a .top) (a .slot) (a .depth) (suc (a .n))) (headed .head-byte .ensures (flowOf leaves (a .at) last _ table))
+    ∙ inner-head-step (a .top) _ _ _ _ _ _)
 
 same-length : tie.Need-same-length
 same-length c = search needs
 
 returns-2 : tie.Need-returns-2
-returns-2 c = λ leaves last table.
-    rw (c .before .before .before .before .before .before .s2 .given .1)
-    (c .inner-index .ensures (flowOf leaves (c .before .before .before .before .before .before .before .before .before .args .at) last _ table)
-    ∙ ap (bodyInner (c .before .before .before .before .before .before .s2 .given .0 .0)) (c .before .before .before .index-byte .ensures leaves last table)
-    ∙ inner-body-step (c .before .before .before .before .before .before .before .before .before .args .top) _ _ _ _ _ _ _)
+returns-2 c =
+    let stepped = c .before .before .before in
+    let arm = stepped .before .before .before in
+    let a = arm .before .before .before .args in
+    λ leaves last table.
+    rw (arm .s2 .given .1)
+    (c .inner-index .ensures (flowOf leaves (a .at) last _ table)
+    ∙ ap (bodyInner (arm .s2 .given .0 .0)) (stepped .index-byte .ensures leaves last table)
+    ∙ inner-body-step (a .top) _ _ _ _ _ _ _)
 
 pub inner-byte-spec : {M : Type 1} → statement M
 inner-byte-spec =

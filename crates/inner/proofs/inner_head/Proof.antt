@@ -1,3 +1,4 @@
+-- `inner::inner_head` meets its contract, by those of `refused_head` and `inner_headed`, and by the definition of `lift`.
 use Rattle.machine.specs.Run.{lift}
 use borrow.Author.Needs.{needs}
 use Rattle.inner.proofs.inner_head.Statement.{statement}
@@ -27,11 +28,17 @@ inner-headed-requires c κs = search needs
 
 returns-2 : tie.Need-returns-2
 unfolding lift
-returns-2 c = λ top m f. rw (c .before .before .before .before .q .given .1, c .before .head .given .1)
+returns-2 c =
+    let arm-head = c .before in
+    let arm-q = arm-head .before .before .before in
+    λ top m f. rw (arm-q .q .given .1, arm-head .head .given .1)
 
 returns-3 : tie.Need-returns-3
 unfolding lift
-returns-3 c = λ top m f. rw (c .before .before .before .before .before .q .given .1, c .before .before .head2 .given .1) (c .inner-headed .ensures top m f)
+returns-3 c =
+    let arm-head2 = c .before .before in
+    let arm-q = arm-head2 .before .before .before in
+    λ top m f. rw (arm-q .q .given .1, arm-head2 .head2 .given .1) (c .inner-headed .ensures top m f)
 
 pub inner-head-spec : {M : Type 1} → statement M
 inner-head-spec =

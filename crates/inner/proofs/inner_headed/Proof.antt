@@ -1,3 +1,5 @@
+-- `inner::inner_headed` meets its contract, by those of `inner_flaw` and `index_begin`, and by the laws `inner-fits`, `inner-refused` and
+-- `inner-begun`.
 use mathlib.Core.Path.{sym, _∙_}
 use native.Mathlib.Omega.{arith}
 use Rattle.inner.proofs.Flaws.{inner-fits}
@@ -13,7 +15,11 @@ returns : tie.Need-returns
 returns c = λ top m f. inner-refused top _ _ m _ _ f (c .before .inner-flaw .ensures) (c .if1 .taken)
 
 add-t8 : tie.Need-add-t8
-add-t8 c = omega (arith, inner-fits (c .before .before .before .args .slot .end) (c .before .before .before .args .depth) (c .before .before .before .args .h) (sym (c .before .before .inner-flaw .ensures) ∙ c .before .if1 .left))
+add-t8 c =
+    let test = c .before in
+    let flawed = test .before in
+    let a = flawed .before .args in
+    omega (arith, inner-fits (a .slot .end) (a .depth) (a .h) (sym (flawed .inner-flaw .ensures) ∙ test .if1 .left))
 
 index-begin-requires : tie.Need-index-begin-requires
 index-begin-requires c κs = search needs

@@ -1,3 +1,4 @@
+-- `inner::inner_index` meets its contract, by that of `refused_index`, and by the definition of `lift`.
 use Rattle.machine.specs.Run.{lift}
 use borrow.Author.Needs.{needs}
 use Rattle.inner.proofs.inner_index.Statement.{statement}
@@ -24,11 +25,17 @@ enum-known-read-2 c = search needs
 
 returns-2 : tie.Need-returns-2
 unfolding lift
-returns-2 c = λ f. rw (c .before .before .before .before .q .given .1, c .before .read .given .1)
+returns-2 c =
+    let arm-read = c .before in
+    let arm-q = arm-read .before .before .before in
+    λ f. rw (arm-q .q .given .1, arm-read .read .given .1)
 
 returns-3 : tie.Need-returns-3
 unfolding lift
-returns-3 c = λ f. rw (c .before .before .before .before .q .given .1, c .before .read2 .given .1)
+returns-3 c =
+    let arm-read2 = c .before in
+    let arm-q = arm-read2 .before .before .before in
+    λ f. rw (arm-q .q .given .1, arm-read2 .read2 .given .1)
 
 pub inner-index-spec : {M : Type 1} → statement M
 inner-index-spec =
