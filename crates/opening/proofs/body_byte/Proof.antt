@@ -1,4 +1,6 @@
-use Prim.Native.Nat.{_+_, _-_}
+-- `opening::body_byte` meets its contract, by those of `opening_skip`, `styp_byte`, `index_byte` and `opening_index`, by the laws `spelled-small`,
+-- `skip-step` and `index-step`, and by the definition of `openingBodyBounds`.
+use Prim.Native.Nat.{_+_}
 use mathlib.Core.Path.{ap, subst, _∙_}
 use native.Mathlib.Omega.{arith}
 use Rattle.state.specs.Calls.{flowOf}
@@ -25,31 +27,38 @@ enum-known-s-2 c = search needs
 
 styp-byte-requires : tie.Need-styp-byte-requires
 unfolding openingBodyBounds
-styp-byte-requires c κs = let w = subst (λ (q : OpeningBody). Within (openingBodyBounds q)) (c .before .s2 .given .1) (c .before .before .before .before .pre .0) in
-    (spelled-small 3 _ _ (omega arith) w, c .before .before .before .before .pre .1)
+styp-byte-requires c κs =
+    let arm = c .before in
+    let asked = arm .before .before .before .pre in
+    let w = subst (λ (q : OpeningBody). Within (openingBodyBounds q)) (arm .s2 .given .1) (asked .0) in
+    (spelled-small 3 _ _ (omega arith) w, asked .1)
 
 enum-known-s-3 : tie.Need-enum-known-s-3
 enum-known-s-3 c = search needs
 
 index-byte-requires : tie.Need-index-byte-requires
 unfolding openingBodyBounds
-index-byte-requires c κs = (
-  tt,
-  tt,
-  subst (λ (q : OpeningBody). Within (openingBodyBounds q)) (c .before .before .s3 .given .1) (c .before .before .before .before .before .pre .0),
-  c .before .before .before .before .before .pre .1,
-  c .before .before .before .before .before .pre .2,
-)
+index-byte-requires c κs =
+    let arm = c .before .before in
+    let asked = arm .before .before .before .pre in (
+      tt,
+      tt,
+      subst (λ (q : OpeningBody). Within (openingBodyBounds q)) (arm .s3 .given .1) (asked .0),
+      asked .1,
+      asked .2,
+    )
 
 opening-index-requires : tie.Need-opening-index-requires
 opening-index-requires c κs = search needs
 
 returns : tie.Need-returns
-returns c = λ leaves at last table.
-    rw (c .before .before .s .given .1)
+returns c =
+    let arm = c .before .before in
+    let a = arm .before .before .before .args in
+    λ leaves at last table.
+    rw (arm .s .given .1)
     (c .opening-skip .ensures _ (flowOf leaves at last _ table)
-    ∙ ap (bodyOpening (c .before .before .before .before .before .args .brand) (c .before .before .before .before .before .args .branded) (c .before .before .before .before .before .args .n + 1))
-    (skip-step _ (c .before .before .before .before .before .args .branded) _ _ (c .before .before .before .before .before .args .b) _))
+    ∙ ap (bodyOpening (a .brand) (a .branded) (a .n + 1)) (skip-step _ (a .branded) _ _ (a .b) _))
 
 returns-2 : tie.Need-returns-2
 returns-2 c = λ leaves at last table. rw (c .before .before .s2 .given .1) (c .styp-byte .ensures (flowOf leaves at last _ table))
@@ -58,11 +67,13 @@ same-length : tie.Need-same-length
 same-length c = search needs
 
 returns-3 : tie.Need-returns-3
-returns-3 c = λ leaves at last table.
-    rw (c .before .before .before .before .before .before .s3 .given .1)
+returns-3 c =
+    let stepped = c .before .before .before in
+    let arm = stepped .before .before .before in
+    λ leaves at last table.
+    rw (arm .s3 .given .1)
     (c .opening-index .ensures _ _ _
-    ∙ index-step _ _ _ leaves at last _ _ table _ _ _ _ (c .before .before .before .index-byte .result)
-    (c .before .before .before .index-byte .ensures leaves last table))
+    ∙ index-step _ _ _ leaves at last _ _ table _ _ _ _ (stepped .index-byte .result) (stepped .index-byte .ensures leaves last table))
 
 pub body-byte-spec : {M : Type 1} → statement M
 body-byte-spec =

@@ -1,11 +1,10 @@
-use Prim.Native.Nat.{_-_}
+-- `opening::brands_from` meets its contract, by that of `opening_next`, and by the definition of `brandsFrom`, with what it is made of unfolded.
 use mathlib.Core.Path.{ap, _∙_}
 use borrow.Author.Tests.{eq-eqb, ne-eqb}
 use Rattle.basics.specs.Choose.{pick}
 use Rattle.machine.specs.Faults.{shows, lowest, unless}
 use Rattle.machine.specs.Run.{lift}
 use Rattle.machine.specs.Lists.{goOn}
-use Rattle.state.specs.Flow.{left}
 use Rattle.state.specs.Opening.{brandsFrom, closeOpening}
 use Rattle.opening.specs.Views.{viewOpening}
 use borrow.Author.Needs.{needs}

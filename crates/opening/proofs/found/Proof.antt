@@ -1,5 +1,4 @@
-use Prim.Native.Nat.{_-_}
-use Rattle.state.specs.Flow.{left}
+-- `opening::found` meets its contract, by its test.
 use borrow.Author.Needs.{needs}
 use Rattle.opening.proofs.found.Statement.{statement}
 use Rattle.opening.proofs.found.Tie as tie

@@ -1,4 +1,6 @@
-use Prim.Native.Nat.{_+_, _-_}
+-- `opening::gap_byte` meets its contract, by those of `head_byte`, `gap_head` and `gap_skip`, by the laws `gap-head-step` and `gap-body-step`, and by
+-- the definition of `gapBounds`.
+use Prim.Native.Nat.{_+_}
 use mathlib.Core.Path.{ap, subst, _∙_}
 use Rattle.state.specs.Ranges.{Within, gapBounds}
 use Rattle.state.specs.declared.GapBoxes.{GapBoxes}
@@ -13,7 +15,10 @@ enum-known-s c = search needs
 
 head-byte-requires : tie.Need-head-byte-requires
 unfolding gapBounds
-head-byte-requires c κs = (subst (λ (q : GapBoxes). Within (gapBounds q)) (c .before .s .given .1) (c .before .before .before .pre .0), c .before .before .before .pre .1)
+head-byte-requires c κs =
+    let arm = c .before in
+    let asked = arm .before .before .pre in
+    (subst (λ (q : GapBoxes). Within (gapBounds q)) (arm .s .given .1) (asked .0), asked .1)
 
 add-gap-head : tie.Need-add-gap-head
 add-gap-head c = search needs
@@ -31,14 +36,21 @@ gap-skip-requires : tie.Need-gap-skip-requires
 gap-skip-requires c κs = search needs
 
 returns : tie.Need-returns
-returns c = λ f.
-    rw (c .before .before .before .s .given .1)
+returns c =
+    let headed = c .before in
+    let arm = headed .before .before in
+    let a = arm .before .before .args in
+    λ f.
+    rw (arm .s .given .1)
     (c .gap-head .ensures f
-    ∙ ap (headGap (c .before .before .before .before .before .args .end) (c .before .before .before .before .before .args .n + 1)) (c .before .head-byte .ensures f)
+    ∙ ap (headGap (a .end) (a .n + 1)) (headed .head-byte .ensures f)
     ∙ gap-head-step _ f _ _ _)
 
 returns-2 : tie.Need-returns-2
-returns-2 c = λ f. rw (c .before .before .s2 .given .1) (c .gap-skip .ensures f ∙ gap-body-step _ f _ (c .before .before .before .before .args .b) _)
+returns-2 c =
+    let arm = c .before .before in
+    let a = arm .before .before .args in
+    λ f. rw (arm .s2 .given .1) (c .gap-skip .ensures f ∙ gap-body-step _ f _ (a .b) _)
 
 pub gap-byte-spec : {M : Type 1} → statement M
 gap-byte-spec =

@@ -1,4 +1,4 @@
-use Prim.Native.Nat.{_-_}
+-- `opening::gap_headed` meets its contract, by those of `gap_flaw` and `gap_skip`, and by the laws `gap-fits`, `gap-refused` and `gap-begun`.
 use mathlib.Core.Path.{sym, _∙_}
 use native.Mathlib.Omega.{arith}
 use Rattle.opening.proofs.GapFlaws.{gap-fits}
@@ -14,7 +14,11 @@ returns : tie.Need-returns
 returns c = λ f. gap-refused _ _ _ _ f (c .before .gap-flaw .ensures) (c .if1 .taken)
 
 add-gap-skip : tie.Need-add-gap-skip
-add-gap-skip c = omega (arith, gap-fits (c .before .before .before .args .end) (c .before .before .before .args .h) (sym (c .before .before .gap-flaw .ensures) ∙ c .before .if1 .left))
+add-gap-skip c =
+    let test = c .before in
+    let flawed = test .before in
+    let a = flawed .before .args in
+    omega (arith, gap-fits (a .end) (a .h) (sym (flawed .gap-flaw .ensures) ∙ test .if1 .left))
 
 gap-skip-requires : tie.Need-gap-skip-requires
 gap-skip-requires c κs = search needs

@@ -1,9 +1,8 @@
-use Prim.Native.Nat.{_-_}
+-- `opening::gap_next` meets its contract, by the definitions of `goOn`, `gapNext`, `pick` and `unless`.
 use borrow.Author.Tests.{eq-eqb, ne-eqb}
 use Rattle.basics.specs.Choose.{pick}
 use Rattle.machine.specs.Faults.{unless}
 use Rattle.machine.specs.Lists.{goOn}
-use Rattle.state.specs.Flow.{left}
 use Rattle.state.specs.Stages.{gapNext}
 use Rattle.opening.proofs.gap_next.Statement.{statement}
 use Rattle.opening.proofs.gap_next.Tie as tie

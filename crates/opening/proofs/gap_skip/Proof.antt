@@ -1,8 +1,7 @@
-use Prim.Native.Nat.{_-_}
+-- `opening::gap_skip` meets its contract, by that of `gap_next`, and by the definitions of `lift` and `pick`.
 use borrow.Author.Tests.{le-leb, lt-leb}
 use Rattle.basics.specs.Choose.{pick}
 use Rattle.machine.specs.Run.{lift}
-use Rattle.state.specs.Flow.{left}
 use borrow.Author.Needs.{needs}
 use Rattle.opening.proofs.gap_skip.Statement.{statement}
 use Rattle.opening.proofs.gap_skip.Tie as tie

@@ -1,7 +1,6 @@
-use Prim.Native.Nat.{_-_}
+-- `opening::misplaced` meets its contract, by the laws `pick-yes` and `pick-no`.
 use mathlib.Core.Path.{sym}
 use Rattle.basics.proofs.Picks.{pick-yes, pick-no}
-use Rattle.state.specs.Flow.{left}
 use Rattle.opening.proofs.misplaced.Statement.{statement}
 use Rattle.opening.proofs.misplaced.Tie as tie
 

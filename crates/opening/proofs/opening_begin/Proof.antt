@@ -1,4 +1,5 @@
-use Prim.Native.Nat.{_-_}
+-- `opening::opening_begin` meets its contract, by those of `index_begin` and `opening_skip`, by the law `skipped`, and by the definitions of
+-- `beginOpening`, `lift` and `pick`.
 use mathlib.Core.Path.{ap, _∙_}
 use borrow.Author.Tests.{eq-eqb, ne-eqb}
 use Rattle.basics.specs.Choose.{pick}
@@ -29,9 +30,13 @@ opening-skip-requires : tie.Need-opening-skip-requires
 opening-skip-requires c κs = search needs
 
 returns-3 : tie.Need-returns-3
-returns-3 c = λ brand f.
+returns-3 c =
+    let test2 = c .before in
+    let test1 = test2 .before .before in
+    let a = test1 .before .before .before .args in
+    λ brand f.
     c .opening-skip .ensures brand f
-    ∙ ap (bodyOpening brand (c .before .before .before .before .before .before .args .branded) _) (skipped _ f _ (c .before .before .before .if1 .left) (c .before .if2 .left))
+    ∙ ap (bodyOpening brand (a .branded) _) (skipped _ f _ (test1 .if1 .left) (test2 .if2 .left))
 
 pub opening-begin-spec : {M : Type 1} → statement M
 opening-begin-spec =

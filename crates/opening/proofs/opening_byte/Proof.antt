@@ -1,4 +1,6 @@
-use Prim.Native.Nat.{_+_, _-_}
+-- `opening::opening_byte` meets its contract, by those of `head_byte`, `opening_head` and `body_byte`, by the laws `opening-head-step` and
+-- `opening-body-step`, and by the definition of `openingBounds`.
+use Prim.Native.Nat.{_+_}
 use mathlib.Core.Path.{ap, subst, _∙_}
 use Rattle.state.specs.Calls.{flowOf}
 use Rattle.state.specs.Ranges.{Within, openingBounds}
@@ -14,7 +16,10 @@ enum-known-s c = search needs
 
 head-byte-requires : tie.Need-head-byte-requires
 unfolding openingBounds
-head-byte-requires c κs = (subst (λ (q : OpeningBoxes). Within (openingBounds q)) (c .before .s .given .1) (c .before .before .before .before .pre .0), c .before .before .before .before .pre .1)
+head-byte-requires c κs =
+    let arm = c .before in
+    let asked = arm .before .before .before .pre in
+    (subst (λ (q : OpeningBoxes). Within (openingBounds q)) (arm .s .given .1) (asked .0), asked .1)
 
 add-opening-head : tie.Need-add-opening-head
 add-opening-head c = search needs
@@ -27,24 +32,33 @@ enum-known-s-2 c = search needs
 
 body-byte-requires : tie.Need-body-byte-requires
 unfolding openingBounds
-body-byte-requires c κs = (
-  subst (λ (q : OpeningBoxes). Within (openingBounds q)) (c .before .before .s2 .given .1) (c .before .before .before .before .before .pre .0),
-  c .before .before .before .before .before .pre .1,
-  c .before .before .before .before .before .pre .2,
-)
+body-byte-requires c κs =
+    let arm = c .before .before in
+    let asked = arm .before .before .before .pre in (
+      subst (λ (q : OpeningBoxes). Within (openingBounds q)) (arm .s2 .given .1) (asked .0),
+      asked .1,
+      asked .2,
+    )
 
 returns : tie.Need-returns
-returns c = λ leaves at last table.
-    rw (c .before .before .before .s .given .1)
+returns c =
+    let headed = c .before in
+    let arm = headed .before .before in
+    let a = arm .before .before .before .args in
+    λ leaves at last table.
+    rw (arm .s .given .1)
     (c .opening-head .ensures _ (flowOf leaves at last _ table)
-    ∙ ap (headOpening (c .before .before .before .before .before .before .args .brand) _ (c .before .before .before .before .before .before .args .n + 1)) (c .before .head-byte .ensures (flowOf leaves at last _ table))
+    ∙ ap (headOpening (a .brand) _ (a .n + 1)) (headed .head-byte .ensures (flowOf leaves at last _ table))
     ∙ opening-head-step _ _ _ _ _ _)
 
 same-length : tie.Need-same-length
 same-length c = search needs
 
 returns-2 : tie.Need-returns-2
-returns-2 c = λ leaves at last table. rw (c .before .before .before .before .before .s2 .given .1) (c .before .before .body-byte .ensures leaves at last table ∙ opening-body-step _ _ _ _ _ _)
+returns-2 c =
+    let stepped = c .before .before in
+    let arm = stepped .before .before .before in
+    λ leaves at last table. rw (arm .s2 .given .1) (stepped .body-byte .ensures leaves at last table ∙ opening-body-step _ _ _ _ _ _)
 
 pub opening-byte-spec : {M : Type 1} → statement M
 opening-byte-spec =

@@ -1,4 +1,5 @@
-use Prim.Native.Nat.{_-_}
+-- `opening::opening_headed` meets its contract, by those of `opening_flaw` and `opening_begin`, and by the laws `opening-fits`, `opening-refused` and
+-- `opening-begun`.
 use mathlib.Core.Path.{sym, _∙_}
 use Rattle.opening.proofs.OpeningFlaws.{opening-fits}
 use Rattle.opening.proofs.OpeningSteps.{opening-refused, opening-begun}

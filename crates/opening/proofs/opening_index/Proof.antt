@@ -1,3 +1,5 @@
+-- `opening::opening_index` meets its contract, by that of `refused_index`, and by the definitions of `lift`, `lowest`, `goOn`, `closeOpening` and
+-- `unless`.
 use Rattle.machine.specs.Faults.{lowest, unless}
 use Rattle.machine.specs.Run.{lift}
 use Rattle.machine.specs.Lists.{goOn}
@@ -27,11 +29,17 @@ enum-known-read-2 c = search needs
 
 returns-2 : tie.Need-returns-2
 unfolding lift
-returns-2 c = λ brand m f. rw (c .before .before .before .before .q .given .1, c .before .read .given .1)
+returns-2 c =
+    let arm-read = c .before in
+    let arm-q = arm-read .before .before .before in
+    λ brand m f. rw (arm-q .q .given .1, arm-read .read .given .1)
 
 returns-3 : tie.Need-returns-3
 unfolding lift goOn closeOpening unless
-returns-3 c = λ brand m f. rw (c .before .before .before .before .q .given .1, c .before .read2 .given .1)
+returns-3 c =
+    let arm-read2 = c .before in
+    let arm-q = arm-read2 .before .before .before in
+    λ brand m f. rw (arm-q .q .given .1, arm-read2 .read2 .given .1)
 
 pub opening-index-spec : {M : Type 1} → statement M
 opening-index-spec =

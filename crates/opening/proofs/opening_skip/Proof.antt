@@ -1,11 +1,10 @@
-use Prim.Native.Nat.{_-_}
+-- `opening::opening_skip` meets its contract, by that of `opening_next`, and by the definitions of `lift`, `goOn`, `closeOpening`, `pick` and `unless`.
 use mathlib.Core.Path.{ap, _∙_}
 use borrow.Author.Tests.{le-leb, lt-leb}
 use Rattle.basics.specs.Choose.{pick}
 use Rattle.machine.specs.Faults.{unless}
 use Rattle.machine.specs.Run.{lift}
 use Rattle.machine.specs.Lists.{goOn}
-use Rattle.state.specs.Flow.{left}
 use Rattle.state.specs.Opening.{closeOpening}
 use Rattle.opening.specs.Views.{viewOpening}
 use borrow.Author.Needs.{needs}

@@ -1,4 +1,6 @@
-use Prim.Native.Nat.{_+_, _-_}
+-- `opening::styp_byte` meets its contract, by those of `spelled` and `styp_end`, by the laws `styp-last` and `styp-more`, and by the definition of
+-- `lift`.
+use Prim.Native.Nat.{_+_}
 use mathlib.Core.Path.{ap, _∙_}
 use Rattle.machine.specs.Run.{lift}
 use Rattle.opening.specs.Views.{bodyOpening}
@@ -17,21 +19,24 @@ styp-end-requires : tie.Need-styp-end-requires
 styp-end-requires c κs = search needs
 
 returns : tie.Need-returns
-returns c = λ f.
+returns c =
+    let test = c .before in
+    let spelt = test .before in
+    let a = spelt .before .args in
+    λ f.
     c .styp-end .ensures f
-    ∙ rw (c .before .before .spelled .ensures)
-    (ap (bodyOpening (c .before .before .before .args .brand) (c .before .before .before .args .branded) (c .before .before .before .args .n + 1))
-    (styp-last _ (c .before .before .before .args .branded) f _ _ _ _ _ _ _ (c .before .if1 .taken)))
+    ∙ rw (spelt .spelled .ensures) (ap (bodyOpening (a .brand) (a .branded) (a .n + 1)) (styp-last _ (a .branded) f _ _ _ _ _ _ _ (test .if1 .taken)))
 
 sub-t13 : tie.Need-sub-t13
 sub-t13 c = search needs
 
 returns-2 : tie.Need-returns-2
 unfolding lift
-returns-2 c = λ f.
-    rw (c .before .spelled .ensures)
-    (ap (bodyOpening (c .before .before .args .brand) (c .before .before .args .branded) (c .before .before .args .n + 1))
-    (styp-more (c .before .before .args .brand) (c .before .before .args .branded) f (c .before .before .args .n) _ _ _ _ _ _ (c .if1 .left)))
+returns-2 c =
+    let spelt = c .before in
+    let a = spelt .before .args in
+    λ f.
+    rw (spelt .spelled .ensures) (ap (bodyOpening (a .brand) (a .branded) (a .n + 1)) (styp-more (a .brand) (a .branded) f (a .n) _ _ _ _ _ _ (c .if1 .left)))
 
 pub styp-byte-spec : {M : Type 1} → statement M
 styp-byte-spec =

@@ -1,4 +1,4 @@
-use Prim.Native.Nat.{_-_}
+-- `opening::styp_end` meets its contract, by those of `brands_from` and `found`, and by the definitions of `stypEnds` and `lift`.
 use Rattle.machine.specs.Run.{lift}
 use Rattle.state.specs.Opening.{stypEnds}
 use borrow.Author.Needs.{needs}
