@@ -1,3 +1,4 @@
+-- `track::after_body` meets its contract, by those of `refused_body`, `worse` and `box_end`, and by the definition of `lift`.
 use mathlib.Core.Path.{ap, sym, _∙_}
 use Rattle.machine.specs.Faults.{lowest}
 use Rattle.machine.specs.Run.{bad, lift}
@@ -26,9 +27,12 @@ worse-requires c κs = search needs
 returns : tie.Need-returns
 unfolding lift
 returns c =
-    let a = c .before .before .before .before .args in
-    let e = c .before .before .enum-told .given .1 in
-    λ id f. ap (λ (x : Refusal). bad x (left f)) (c .worse .ensures ∙ ap (λ (x : Refusal). lowest x (besideTraf (a .span) (a .so .track) (a .n))) (c .before .refused-body .ensures ∙ ap refusalBody e))
+    let at-refused-body = c .before in
+    let told = at-refused-body .before in
+    let a = told .before .before .args in
+    let e = told .enum-told .given .1 in
+    λ id f. ap (λ (x : Refusal). bad x (left f))
+    (c .worse .ensures ∙ ap (λ (x : Refusal). lowest x (besideTraf (a .span) (a .so .track) (a .n))) (at-refused-body .refused-body .ensures ∙ ap refusalBody e))
     ∙ sym (ap (λ (q : BodyStep). afterBody id (a .span) (a .so) (a .n) (viewBody f q)) e)
 
 enum-known-body : tie.Need-enum-known-body
@@ -43,15 +47,19 @@ box-end-requires c κs = search needs
 returns-2 : tie.Need-returns-2
 unfolding lift
 returns-2 c =
-    let a = c .before .before .before .before .before .before .args in
-    let e = c .before .before .before .before .r .given .1 ∙ ap bodyStep.Taken (c .before .body .given .1) in
+    let arm-body = c .before in
+    let arm-r = arm-body .before .before .before in
+    let a = arm-r .before .before .args in
+    let e = arm-r .r .given .1 ∙ ap bodyStep.Taken (arm-body .body .given .1) in
     λ id f. sym (ap (λ (q : BodyStep). afterBody id (a .span) (a .so) (a .n) (viewBody f q)) e)
 
 returns-3 : tie.Need-returns-3
 unfolding lift
 returns-3 c =
-    let a = c .before .before .before .before .before .before .before .args in
-    let e = c .before .before .before .before .before .r .given .1 ∙ ap bodyStep.Taken (c .before .before .body2 .given .1) in
+    let arm-body2 = c .before .before in
+    let arm-r = arm-body2 .before .before .before in
+    let a = arm-r .before .before .args in
+    let e = arm-r .r .given .1 ∙ ap bodyStep.Taken (arm-body2 .body2 .given .1) in
     λ id f. c .box-end .ensures id f
     ∙ sym (ap (λ (q : BodyStep). afterBody id (a .span) (a .so) (a .n) (viewBody f q)) e)
 

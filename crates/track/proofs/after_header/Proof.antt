@@ -1,3 +1,5 @@
+-- `track::after_header` meets its contract, by those of `box_flaw`, `worse`, `body_begin` and `after_body`, and by the laws `all-right`, `header-bad`
+-- and `header-good`.
 use Prim.Native.Nat.{ℕ}
 use mathlib.Core.Path.{ap, sym, _∙_}
 use native.Mathlib.Omega.{arith}
@@ -19,10 +21,12 @@ worse-requires c κs = search needs
 
 returns : tie.Need-returns
 returns c =
-    let a = c .before .before .before .args in
+    let test = c .before in
+    let flawed = test .before in
+    let a = flawed .before .args in
     λ id f. ap (λ (x : Refusal). bad x (left f)) (c .worse .ensures)
-    ∙ ap (λ (m : ℕ). bad (lowest (refusal m (a .h .pos)) (besideTraf (a .span) (a .so .track) (a .n))) (left f)) (c .before .before .box-flaw .ensures)
-    ∙ sym (header-bad id (a .span) (a .so) (a .n) (a .h) f (λ e. c .before .if1 .taken (c .before .before .box-flaw .ensures ∙ e)))
+    ∙ ap (λ (m : ℕ). bad (lowest (refusal m (a .h .pos)) (besideTraf (a .span) (a .so .track) (a .n))) (left f)) (flawed .box-flaw .ensures)
+    ∙ sym (header-bad id (a .span) (a .so) (a .n) (a .h) f (λ e. test .if1 .taken (flawed .box-flaw .ensures ∙ e)))
 
 body-begin-requires : tie.Need-body-begin-requires
 body-begin-requires c κs =
@@ -34,10 +38,13 @@ after-body-requires c κs = search needs
 
 returns-2 : tie.Need-returns-2
 returns-2 c =
-    let a = c .before .before .before .before .args in
+    let at-body-begin = c .before in
+    let test = at-body-begin .before in
+    let flawed = test .before in
+    let a = flawed .before .args in
     λ id f. c .after-body .ensures id f
-    ∙ ap (afterBody id (a .span) (a .so) (a .n)) (c .before .body-begin .ensures f)
-    ∙ sym (header-good id (a .span) (a .so) (a .n) (a .h) f (sym (c .before .before .before .box-flaw .ensures) ∙ c .before .before .if1 .left))
+    ∙ ap (afterBody id (a .span) (a .so) (a .n)) (at-body-begin .body-begin .ensures f)
+    ∙ sym (header-good id (a .span) (a .so) (a .n) (a .h) f (sym (flawed .box-flaw .ensures) ∙ test .if1 .left))
 
 pub after-header-spec : {M : Type 1} → statement M
 after-header-spec =

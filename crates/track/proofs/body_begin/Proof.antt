@@ -1,8 +1,8 @@
+-- `track::body_begin` meets its contract, by that of `skip_to`, by the law `pick-no`, and by the definitions of `beginTraf` and `pick`.
 use mathlib.Core.Path.{sym, _∙_}
 use borrow.Author.Tests.{eq-eqb, ne-eqb}
 use Rattle.basics.specs.Choose.{pick}
 use Rattle.basics.proofs.Picks.{pick-no}
-use Rattle.state.specs.Flow.{left}
 use Rattle.state.specs.Traf.{beginTraf}
 use borrow.Author.Needs.{needs}
 use Rattle.track.proofs.body_begin.Statement.{statement}

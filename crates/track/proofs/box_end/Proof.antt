@@ -1,3 +1,4 @@
+-- `track::box_end` meets its contract, by those of `go_on` and `time_end`, and by the definitions of `trafNow` and `fallFaults`.
 use mathlib.Core.Path.{ap, sym, _∙_}
 use Rattle.machine.specs.Lists.{goOn}
 use Rattle.state.specs.Traf.{trafNow, fallFaults, trafNext, trafBoxes, wrapTraf}
@@ -28,22 +29,28 @@ time-end-requires c κs = search needs
 returns : tie.Need-returns
 unfolding trafNow fallFaults
 returns c =
-    let a = c .before .before .before .args in
+    let told = c .before in
+    let a = told .before .before .args in
     λ id f. c .go-on .ensures id f
-    ∙ sym (ap (λ (g : Given). goOn (trafBoxes id (a .span)) wrapTraf (trafNext (a .span) (trafNow (a .so) (gaveOf g)) (fallFaults (a .so .seen .last) (gaveOf g)) (a .n)) f) (c .before .enum-told .given .1))
+    ∙ sym
+    (ap (λ (g : Given). goOn (trafBoxes id (a .span)) wrapTraf (trafNext (a .span) (trafNow (a .so) (gaveOf g)) (fallFaults (a .so .seen .last) (gaveOf g)) (a .n)) f) (told .enum-told .given .1))
 
 returns-2 : tie.Need-returns-2
 unfolding trafNow fallFaults
 returns-2 c =
-    let a = c .before .before .before .before .before .args in
+    let arm = c .before .before .before in
+    let a = arm .before .before .args in
     λ id f. c .go-on2 .ensures id f
-    ∙ sym (ap (λ (g : Given). goOn (trafBoxes id (a .span)) wrapTraf (trafNext (a .span) (trafNow (a .so) (gaveOf g)) (fallFaults (a .so .seen .last) (gaveOf g)) (a .n)) f) (c .before .before .before .g .given .1))
+    ∙ sym
+    (ap (λ (g : Given). goOn (trafBoxes id (a .span)) wrapTraf (trafNext (a .span) (trafNow (a .so) (gaveOf g)) (fallFaults (a .so .seen .last) (gaveOf g)) (a .n)) f) (arm .g .given .1))
 
 returns-3 : tie.Need-returns-3
 returns-3 c =
-    let a = c .before .before .before .before .args in
+    let arm = c .before .before in
+    let a = arm .before .before .args in
     λ id f. c .time-end .ensures id f
-    ∙ sym (ap (λ (g : Given). goOn (trafBoxes id (a .span)) wrapTraf (trafNext (a .span) (trafNow (a .so) (gaveOf g)) (fallFaults (a .so .seen .last) (gaveOf g)) (a .n)) f) (c .before .before .g2 .given .1))
+    ∙ sym
+    (ap (λ (g : Given). goOn (trafBoxes id (a .span)) wrapTraf (trafNext (a .span) (trafNow (a .so) (gaveOf g)) (fallFaults (a .so .seen .last) (gaveOf g)) (a .n)) f) (arm .g2 .given .1))
 
 pub box-end-spec : {M : Type 1} → statement M
 box-end-spec =

@@ -1,4 +1,4 @@
-use Rattle.state.specs.Flow.{left}
+-- `track::falls` meets its contract, by its test.
 use Rattle.track.proofs.falls.Statement.{statement}
 use Rattle.track.proofs.falls.Tie as tie
 

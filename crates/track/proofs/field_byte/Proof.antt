@@ -1,7 +1,7 @@
+-- `track::field_byte` meets its contract, by those of `spelled` and `field_end`, and by the laws `field-last`, `field-more` and `field-small`.
 use Prim.Native.Nat.{ℕ, _+_, _-_}
 use mathlib.Core.Path.{ap, sym, _∙_}
 use Rattle.machine.specs.Run.{go}
-use Rattle.state.specs.Flow.{left}
 use Rattle.state.specs.Traf.{trafEnds}
 use Rattle.state.specs.declared.TrafBody.the-variants as body
 use Rattle.track.proofs.Laws.{field-last, field-more, field-small}
@@ -22,10 +22,12 @@ field-end-requires c κs = search needs
 
 returns : tie.Need-returns
 returns c =
-    let a = c .before .before .before .args in
+    let test = c .before in
+    let spelt = test .before in
+    let a = spelt .before .args in
     λ f. c .field-end .ensures f
-    ∙ ap (λ (v : ℕ). trafEnds (a .id) (a .t) (a .p) v f (a .n + 1)) (c .before .before .spelled .ensures)
-    ∙ sym (field-last (a .id) (a .t) (a .p) f (a .n) (a .b) (a .more) (a .acc) (c .before .if1 .taken))
+    ∙ ap (λ (v : ℕ). trafEnds (a .id) (a .t) (a .p) v f (a .n + 1)) (spelt .spelled .ensures)
+    ∙ sym (field-last (a .id) (a .t) (a .p) f (a .n) (a .b) (a .more) (a .acc) (test .if1 .taken))
 
 sub-t11 : tie.Need-sub-t11
 sub-t11 c = search needs

@@ -1,3 +1,4 @@
+-- `track::is_reference` meets its contract, by the definition of `reference`.
 use mathlib.Core.Path.{ap, sym}
 use Rattle.state.specs.Traf.{reference}
 use borrow.Author.Needs.{needs}

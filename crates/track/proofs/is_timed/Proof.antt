@@ -1,3 +1,4 @@
+-- `track::is_timed` meets its contract, by the definition of `timedTrack`.
 use mathlib.Core.Path.{ap, sym}
 use Rattle.track.specs.Track.{timedTrack}
 use borrow.Author.Needs.{needs}

@@ -1,3 +1,4 @@
+-- `track::may_head` meets its contract, by the definition of `fresh`.
 use mathlib.Core.Path.{ap, sym}
 use Rattle.state.specs.Rows.{fresh}
 use borrow.Author.Needs.{needs}

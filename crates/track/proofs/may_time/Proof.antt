@@ -1,3 +1,4 @@
+-- `track::may_time` meets its contract, by the definition of `headedTrack`.
 use mathlib.Core.Path.{ap, sym}
 use Rattle.state.specs.Rows.{headedTrack}
 use borrow.Author.Needs.{needs}

@@ -1,3 +1,4 @@
+-- `track::refused_body` meets its contract, by the case that was matched.
 use mathlib.Core.Path.{ap, sym}
 use Rattle.track.specs.Track.{refusalBody}
 use borrow.Author.Needs.{needs}

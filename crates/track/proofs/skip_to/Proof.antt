@@ -1,7 +1,7 @@
+-- `track::skip_to` meets its contract, by the laws `pick-yes` and `pick-no`.
 use mathlib.Core.Path.{sym}
 use borrow.Author.Tests.{le-leb, lt-leb}
 use Rattle.basics.proofs.Picks.{pick-yes, pick-no}
-use Rattle.state.specs.Flow.{left}
 use Rattle.track.proofs.skip_to.Statement.{statement}
 use Rattle.track.proofs.skip_to.Tie as tie
 

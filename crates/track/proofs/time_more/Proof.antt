@@ -1,6 +1,6 @@
+-- `track::time_more` meets its contract, by the laws `pick-yes` and `pick-no`.
 use mathlib.Core.Path.{sym}
 use Rattle.basics.proofs.Picks.{pick-yes, pick-no}
-use Rattle.state.specs.Flow.{left}
 use Rattle.track.proofs.time_more.Statement.{statement}
 use Rattle.track.proofs.time_more.Tie as tie
 

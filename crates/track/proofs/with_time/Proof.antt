@@ -1,5 +1,5 @@
+-- `track::with_time` meets its contract, by the definitions of `saw` and `pick`.
 use Rattle.basics.specs.Choose.{pick}
-use Rattle.state.specs.Flow.{left}
 use Rattle.state.specs.Traf.{saw}
 use Rattle.track.proofs.with_time.Statement.{statement}
 use Rattle.track.proofs.with_time.Tie as tie
