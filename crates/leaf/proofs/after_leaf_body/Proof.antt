@@ -1,3 +1,4 @@
+-- `leaf::after_leaf_body` meets its contract, by those of `leaf_after`, `leaf_on` and `worse_in_leaf`, and by the definition of `lift`.
 use mathlib.Core.Path.{ap, sym, _∙_}
 use Rattle.machine.specs.Run.{bad, lift}
 use Rattle.machine.specs.Lists.{goOn}
@@ -38,17 +39,20 @@ returns c =
 returns-2 : tie.Need-returns-2
 unfolding lift
 returns-2 c =
-    let a = c .before .before .before .before .before .args in
+    let at-leaf-after = c .before in
+    let arm = at-leaf-after .before .before in
+    let a = arm .before .before .args in
     λ id f e. c .leaf-on .ensures id f e
-    ∙ ap (λ (s : LeafSo). goOn (leafBoxes id (a .slot)) wrapLeaf (leafNext (a .slot) s f (a .n)) f) (c .before .leaf-after .ensures)
-    ∙ sym (ap (λ (q : LeafBodyStep). afterBody (leafBoxes id (a .slot)) wrapLeaf (a .so) (a .n) (viewLeafBody f q)) (c .before .before .before .r2 .given .1))
+    ∙ ap (λ (s : LeafSo). goOn (leafBoxes id (a .slot)) wrapLeaf (leafNext (a .slot) s f (a .n)) f) (at-leaf-after .leaf-after .ensures)
+    ∙ sym (ap (λ (q : LeafBodyStep). afterBody (leafBoxes id (a .slot)) wrapLeaf (a .so) (a .n) (viewLeafBody f q)) (arm .r2 .given .1))
 
 returns-3 : tie.Need-returns-3
 unfolding lift
 returns-3 c =
-    let a = c .before .before .before .before .args in
+    let arm = c .before .before in
+    let a = arm .before .before .args in
     λ id f e. ap (λ (x : Refusal). bad x (left f)) (c .worse-in-leaf .ensures f e)
-    ∙ sym (ap (λ (q : LeafBodyStep). afterBody (leafBoxes id (a .slot)) wrapLeaf (a .so) (a .n) (viewLeafBody f q)) (c .before .before .r3 .given .1))
+    ∙ sym (ap (λ (q : LeafBodyStep). afterBody (leafBoxes id (a .slot)) wrapLeaf (a .so) (a .n) (viewLeafBody f q)) (arm .r3 .given .1))
 
 pub after-leaf-body-spec : {M : Type 1} → statement M
 after-leaf-body-spec =

@@ -1,3 +1,4 @@
+-- `leaf::after_leaf_head` meets its contract, by those of `refused_head`, `worse_in_leaf` and `after_leaf_header`, and by the definition of `lift`.
 use mathlib.Core.Path.{ap, sym, _∙_}
 use mathlib.Core.List.{[]}
 use lib.Dec.{eqb}
@@ -30,9 +31,13 @@ worse-in-leaf-requires c κs = search needs
 returns : tie.Need-returns
 unfolding lift
 returns c =
-    let a = c .before .before .before .before .args in
-    let e = c .before .before .enum-told .given .1 in
-    λ id f k. ap (λ (x : Refusal). bad x (left f)) (c .worse-in-leaf .ensures f k ∙ ap (λ (x : Refusal). lowest x (pick (eqb (a .n) (a .slot .end)) (leafLacks (a .slot) (a .so) (left f)) [])) (c .before .refused-head .ensures ∙ ap refusalHead e))
+    let at-refused-head = c .before in
+    let told = at-refused-head .before in
+    let a = told .before .before .args in
+    let e = told .enum-told .given .1 in
+    λ id f k. ap (λ (x : Refusal). bad x (left f))
+    (c .worse-in-leaf .ensures f k
+    ∙ ap (λ (x : Refusal). lowest x (pick (eqb (a .n) (a .slot .end)) (leafLacks (a .slot) (a .so) (left f)) [])) (at-refused-head .refused-head .ensures ∙ ap refusalHead e))
     ∙ sym (ap (λ (q : HeadStep). afterHead (leafBoxes id (a .slot)) wrapLeaf (a .so) (a .n) (viewHead f q)) e)
 
 enum-known-head : tie.Need-enum-known-head
@@ -47,15 +52,19 @@ after-leaf-header-requires c κs = search needs
 returns-2 : tie.Need-returns-2
 unfolding lift
 returns-2 c =
-    let a = c .before .before .before .before .before .before .args in
-    let e = c .before .before .before .before .r .given .1 ∙ ap heads.Taken (c .before .head .given .1) in
+    let arm-head = c .before in
+    let arm-r = arm-head .before .before .before in
+    let a = arm-r .before .before .args in
+    let e = arm-r .r .given .1 ∙ ap heads.Taken (arm-head .head .given .1) in
     λ id f k. sym (ap (λ (q : HeadStep). afterHead (leafBoxes id (a .slot)) wrapLeaf (a .so) (a .n) (viewHead f q)) e)
 
 returns-3 : tie.Need-returns-3
 unfolding lift
 returns-3 c =
-    let a = c .before .before .before .before .before .before .before .args in
-    let e = c .before .before .before .before .before .r .given .1 ∙ ap heads.Taken (c .before .before .head2 .given .1) in
+    let arm-head2 = c .before .before in
+    let arm-r = arm-head2 .before .before .before in
+    let a = arm-r .before .before .args in
+    let e = arm-r .r .given .1 ∙ ap heads.Taken (arm-head2 .head2 .given .1) in
     λ id f k. c .after-leaf-header .ensures id f k
     ∙ sym (ap (λ (q : HeadStep). afterHead (leafBoxes id (a .slot)) wrapLeaf (a .so) (a .n) (viewHead f q)) e)
 

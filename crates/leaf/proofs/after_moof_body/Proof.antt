@@ -1,3 +1,4 @@
+-- `leaf::after_moof_body` meets its contract, by those of `seen_after` and `moof_on`, and by the definitions of `lift` and `lowest`.
 use mathlib.Core.Path.{ap, sym, _∙_}
 use Rattle.machine.specs.Faults.{lowest}
 use Rattle.machine.specs.Run.{lift}
@@ -34,10 +35,12 @@ returns c =
 returns-2 : tie.Need-returns-2
 unfolding lift
 returns-2 c =
-    let a = c .before .before .before .before .before .args in
+    let at-seen-after = c .before in
+    let arm = at-seen-after .before .before in
+    let a = arm .before .before .args in
     λ id f. c .moof-on .ensures id f
-    ∙ ap (λ (s : Seen). goOn (moofBoxes id (a .end)) wrapMoof (moofNext (a .end) s (a .n)) f) (c .before .seen-after .ensures)
-    ∙ sym (ap (λ (q : MoofBodyStep). afterBody (moofBoxes id (a .end)) wrapMoof (a .seen) (a .n) (viewMoofBody f q)) (c .before .before .before .r2 .given .1))
+    ∙ ap (λ (s : Seen). goOn (moofBoxes id (a .end)) wrapMoof (moofNext (a .end) s (a .n)) f) (at-seen-after .seen-after .ensures)
+    ∙ sym (ap (λ (q : MoofBodyStep). afterBody (moofBoxes id (a .end)) wrapMoof (a .seen) (a .n) (viewMoofBody f q)) (arm .r2 .given .1))
 
 returns-3 : tie.Need-returns-3
 unfolding lift lowest

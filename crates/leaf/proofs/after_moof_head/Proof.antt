@@ -1,3 +1,4 @@
+-- `leaf::after_moof_head` meets its contract, by those of `refused_head` and `after_moof_header`, and by the definitions of `lift` and `lowest`.
 use mathlib.Core.Path.{ap, sym, _∙_}
 use Rattle.machine.specs.Faults.{lowest}
 use Rattle.machine.specs.Run.{bad, lift}
@@ -41,15 +42,19 @@ after-moof-header-requires c κs = search needs
 returns-2 : tie.Need-returns-2
 unfolding lift
 returns-2 c =
-    let a = c .before .before .before .before .before .before .args in
-    let e = c .before .before .before .before .r .given .1 ∙ ap heads.Taken (c .before .head .given .1) in
+    let arm-head = c .before in
+    let arm-r = arm-head .before .before .before in
+    let a = arm-r .before .before .args in
+    let e = arm-r .r .given .1 ∙ ap heads.Taken (arm-head .head .given .1) in
     λ id f. sym (ap (λ (q : HeadStep). afterHead (moofBoxes id (a .end)) wrapMoof (a .seen) (a .n) (viewHead f q)) e)
 
 returns-3 : tie.Need-returns-3
 unfolding lift
 returns-3 c =
-    let a = c .before .before .before .before .before .before .before .args in
-    let e = c .before .before .before .before .before .r .given .1 ∙ ap heads.Taken (c .before .before .head2 .given .1) in
+    let arm-head2 = c .before .before in
+    let arm-r = arm-head2 .before .before .before in
+    let a = arm-r .before .before .args in
+    let e = arm-r .r .given .1 ∙ ap heads.Taken (arm-head2 .head2 .given .1) in
     λ id f. c .after-moof-header .ensures id f
     ∙ sym (ap (λ (q : HeadStep). afterHead (moofBoxes id (a .end)) wrapMoof (a .seen) (a .n) (viewHead f q)) e)
 

@@ -1,8 +1,9 @@
+-- `leaf::begin_leaf` meets its contract, by those of `moof_on`, `lift_moof` and `skip_leaf`, by the laws `pick-yes` and `pick-no`, and by the
+-- definition of `beginLeaf`.
 use Prim.Native.Nat.{_+_}
 use mathlib.Core.Path.{ap, sym, _∙_}
 use borrow.Author.Tests.{eq-eqb, ne-eqb}
 use Rattle.basics.proofs.Picks.{pick-yes, pick-no}
-use Rattle.state.specs.Flow.{left}
 use Rattle.state.specs.Leaf.{liftMoof, beginLeaf}
 use borrow.Author.Needs.{needs}
 use Rattle.leaf.proofs.begin_leaf.Statement.{statement}
@@ -20,9 +21,12 @@ lift-moof-requires c κs = search needs
 returns : tie.Need-returns
 unfolding beginLeaf
 returns c =
+    let at-moof-on = c .before in
+    let test = at-moof-on .before in
+    let a = test .before .before .before .args in
     λ id f. c .lift-moof .ensures f
-    ∙ ap (liftMoof (c .before .before .before .before .before .args .h .pos + c .before .before .before .before .before .args .h .size)) (c .before .moof-on .ensures id f)
-    ∙ sym (pick-yes _ _ _ (eq-eqb _ _ (c .before .before .if1 .taken)))
+    ∙ ap (liftMoof (a .h .pos + a .h .size)) (at-moof-on .moof-on .ensures id f)
+    ∙ sym (pick-yes _ _ _ (eq-eqb _ _ (test .if1 .taken)))
 
 skip-leaf-requires : tie.Need-skip-leaf-requires
 skip-leaf-requires c κs = search needs

@@ -1,7 +1,8 @@
+-- `leaf::begin_moof` meets its contract, by those of `traf_begin`, `lift_traf` and `skip_moof`, by the laws `pick-yes` and `pick-no`, and by the
+-- definition of `beginMoof`.
 use mathlib.Core.Path.{ap, sym, _∙_}
 use borrow.Author.Tests.{eq-eqb, ne-eqb}
 use Rattle.basics.proofs.Picks.{pick-yes, pick-no}
-use Rattle.state.specs.Flow.{left}
 use Rattle.state.specs.Opening.{spanOf}
 use Rattle.state.specs.Leaf.{liftTraf, beginMoof}
 use borrow.Author.Needs.{needs}
@@ -20,9 +21,12 @@ lift-traf-requires c κs = search needs
 returns : tie.Need-returns
 unfolding beginMoof
 returns c =
+    let at-traf-begin = c .before in
+    let test = at-traf-begin .before in
+    let a = test .before .before .before .args in
     λ id f. c .lift-traf .ensures f
-    ∙ ap (liftTraf (spanOf (c .before .before .before .before .before .args .h))) (c .before .traf-begin .ensures id f)
-    ∙ sym (pick-yes _ _ _ (eq-eqb _ _ (c .before .before .if1 .taken)))
+    ∙ ap (liftTraf (spanOf (a .h))) (at-traf-begin .traf-begin .ensures id f)
+    ∙ sym (pick-yes _ _ _ (eq-eqb _ _ (test .if1 .taken)))
 
 skip-moof-requires : tie.Need-skip-moof-requires
 skip-moof-requires c κs = search needs

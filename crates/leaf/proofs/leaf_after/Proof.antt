@@ -1,3 +1,4 @@
+-- `leaf::leaf_after` meets its contract, by the definition of `leafNow`.
 use mathlib.Core.Path.{ap, sym}
 use Rattle.state.specs.Leaf.{leafNow}
 use Rattle.leaf.specs.Leaf.{passedOf}

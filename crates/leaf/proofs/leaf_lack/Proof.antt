@@ -1,5 +1,5 @@
+-- `leaf::leaf_lack` meets its contract, by the definitions of `lackOf` and `pick`.
 use Rattle.basics.specs.Choose.{pick}
-use Rattle.state.specs.Flow.{left}
 use Rattle.leaf.specs.Leaf.{lackOf}
 use Rattle.leaf.proofs.leaf_lack.Statement.{statement}
 use Rattle.leaf.proofs.leaf_lack.Tie as tie

@@ -1,3 +1,5 @@
+-- `leaf::leaf_on` meets its contract, by that of `leaf_lack`, by the laws `pick-yes`, `pick-no` and `lacks-over`, and by the definitions of `goOn`,
+-- `leafNext`, `unless` and `pick`.
 use Prim.Native.Nat.{ℕ}
 use mathlib.Core.Path.{ap, sym, _∙_}
 use borrow.Author.Tests.{eq-eqb, ne-eqb}
@@ -22,16 +24,19 @@ leaf-lack-requires c κs = search needs
 
 returns-2 : tie.Need-returns-2
 returns-2 c =
-    let a = c .before .before .before .before .before .args in
-    λ id f e. ap (λ (m : ℕ). bad (refusal m (a .slot .pos)) (left f)) (c .before .leaf-lack .ensures)
-    ∙ sym (lacks-over (a .slot) (a .so) f (a .full) e (a .n) (c .before .before .before .if1 .left) id ∙ pick-no _ _ _ (ne-eqb _ _ (λ k. c .if2 .taken (c .before .leaf-lack .ensures ∙ k))))
+    let lacking = c .before in
+    let test = lacking .before .before in
+    let a = test .before .before .args in
+    λ id f e. ap (λ (m : ℕ). bad (refusal m (a .slot .pos)) (left f)) (lacking .leaf-lack .ensures)
+    ∙ sym (lacks-over (a .slot) (a .so) f (a .full) e (a .n) (test .if1 .left) id ∙ pick-no _ _ _ (ne-eqb _ _ (λ k. c .if2 .taken (lacking .leaf-lack .ensures ∙ k))))
 
 returns-3 : tie.Need-returns-3
 returns-3 c =
-    let a = c .before .before .before .before .before .args in
-    λ id f e. sym
-    (lacks-over (a .slot) (a .so) f (a .full) e (a .n) (c .before .before .before .if1 .left) id
-    ∙ pick-yes _ _ _ (eq-eqb _ _ (sym (c .before .leaf-lack .ensures) ∙ c .if2 .left)))
+    let lacking = c .before in
+    let test = lacking .before .before in
+    let a = test .before .before .args in
+    λ id f e. sym (lacks-over (a .slot) (a .so) f (a .full) e (a .n) (test .if1 .left) id
+    ∙ pick-yes _ _ _ (eq-eqb _ _ (sym (lacking .leaf-lack .ensures) ∙ c .if2 .left)))
 
 pub leaf-on-spec : {M : Type 1} → statement M
 leaf-on-spec = tie.close (tie.spec returns leaf-lack-requires returns-2 returns-3)

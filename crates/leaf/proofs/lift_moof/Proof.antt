@@ -1,3 +1,4 @@
+-- `leaf::lift_moof` meets its contract, by the definition of `lift`.
 use mathlib.Core.Path.{ap, sym}
 use Rattle.machine.specs.Run.{lift}
 use Rattle.state.specs.Leaf.{liftMoof}

@@ -1,5 +1,5 @@
+-- `leaf::misplaced` meets its contract, by its tests, which decide those of the definition.
 use borrow.Author.Tests.{eq-eqb, ne-eqb}
-use Rattle.state.specs.Flow.{left}
 use Rattle.leaf.proofs.misplaced.Statement.{statement}
 use Rattle.leaf.proofs.misplaced.Tie as tie
 

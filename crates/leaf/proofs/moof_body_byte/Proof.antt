@@ -1,3 +1,5 @@
+-- `leaf::moof_body_byte` meets its contract, by those of `skip_moof`, `traf_byte` and `lift_traf`, and by the definitions of `moofBodyBounds` and
+-- `stepMoofBody`.
 use mathlib.Core.Path.{ap, sym, subst, _∙_}
 use native.Mathlib.Numerals.{add-one}
 use Rattle.state.specs.Leaf.{skipMoof, liftTraf, stepMoofBody}
@@ -21,7 +23,10 @@ enum-known-s-2 c = search needs
 
 traf-byte-requires : tie.Need-traf-byte-requires
 unfolding moofBodyBounds
-traf-byte-requires c κs = (subst (λ (q : MoofBody). Within (moofBodyBounds q)) (c .before .s2 .given .1) (c .before .before .before .pre .0), c .before .before .before .pre .1)
+traf-byte-requires c κs =
+    let arm = c .before in
+    let asked = arm .before .before .pre in
+    (subst (λ (q : MoofBody). Within (moofBodyBounds q)) (arm .s2 .given .1) (asked .0), asked .1)
 
 lift-traf-requires : tie.Need-lift-traf-requires
 lift-traf-requires c κs = search needs
@@ -29,18 +34,21 @@ lift-traf-requires c κs = search needs
 returns : tie.Need-returns
 unfolding stepMoofBody
 returns c =
-    let a = c .before .before .before .before .args in
+    let arm = c .before .before in
+    let a = arm .before .before .args in
     λ f. c .skip-moof .ensures f
-    ∙ ap (skipMoof (c .before .before .s .given .0 .0) f) (add-one (a .n))
-    ∙ sym (ap (λ (q : MoofBody). stepMoofBody (a .id) q f (a .n) (a .b)) (c .before .before .s .given .1))
+    ∙ ap (skipMoof (arm .s .given .0 .0) f) (add-one (a .n))
+    ∙ sym (ap (λ (q : MoofBody). stepMoofBody (a .id) q f (a .n) (a .b)) (arm .s .given .1))
 
 returns-2 : tie.Need-returns-2
 unfolding stepMoofBody
 returns-2 c =
-    let a = c .before .before .before .before .before .args in
+    let stepped = c .before in
+    let arm = stepped .before .before in
+    let a = arm .before .before .args in
     λ f. c .lift-traf .ensures f
-    ∙ ap (liftTraf (c .before .before .before .s2 .given .0 .0)) (c .before .traf-byte .ensures f)
-    ∙ sym (ap (λ (q : MoofBody). stepMoofBody (a .id) q f (a .n) (a .b)) (c .before .before .before .s2 .given .1))
+    ∙ ap (liftTraf (arm .s2 .given .0 .0)) (stepped .traf-byte .ensures f)
+    ∙ sym (ap (λ (q : MoofBody). stepMoofBody (a .id) q f (a .n) (a .b)) (arm .s2 .given .1))
 
 pub moof-body-byte-spec : {M : Type 1} → statement M
 moof-body-byte-spec =

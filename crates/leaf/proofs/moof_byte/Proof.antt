@@ -1,3 +1,5 @@
+-- `leaf::moof_byte` meets its contract, by those of `head_byte`, `after_moof_head`, `moof_body_byte` and `after_moof_body`, and by the definitions of
+-- `moofBounds`, `stepMoof` and `stepBox`.
 use Prim.Native.Nat.{ℕ, _+_}
 use mathlib.Core.Path.{ap, sym, subst, _∙_}
 use native.Mathlib.Numerals.{add-one}
@@ -17,7 +19,10 @@ enum-known-s c = search needs
 
 head-byte-requires : tie.Need-head-byte-requires
 unfolding moofBounds
-head-byte-requires c κs = (subst (λ (q : MoofBoxes). Within (moofBounds q)) (c .before .s .given .1) (c .before .before .before .pre .0), c .before .before .before .pre .1)
+head-byte-requires c κs =
+    let arm = c .before in
+    let asked = arm .before .before .pre in
+    (subst (λ (q : MoofBoxes). Within (moofBounds q)) (arm .s .given .1) (asked .0), asked .1)
 
 add-after-moof-head : tie.Need-add-after-moof-head
 add-after-moof-head c = search needs
@@ -30,7 +35,10 @@ enum-known-s-2 c = search needs
 
 moof-body-byte-requires : tie.Need-moof-body-byte-requires
 unfolding moofBounds
-moof-body-byte-requires c κs = (subst (λ (q : MoofBoxes). Within (moofBounds q)) (c .before .s2 .given .1) (c .before .before .before .pre .0), c .before .before .before .pre .1)
+moof-body-byte-requires c κs =
+    let arm = c .before in
+    let asked = arm .before .before .pre in
+    (subst (λ (q : MoofBoxes). Within (moofBounds q)) (arm .s2 .given .1) (asked .0), asked .1)
 
 add-after-moof-body : tie.Need-add-after-moof-body
 add-after-moof-body c = search needs
@@ -41,20 +49,24 @@ after-moof-body-requires c κs = search needs
 returns : tie.Need-returns
 unfolding stepMoof stepBox
 returns c =
-    let a = c .before .before .before .before .before .args in
+    let headed = c .before in
+    let arm = headed .before .before in
+    let a = arm .before .before .args in
     λ f. c .after-moof-head .ensures (a .id) f
-    ∙ ap (afterHead (moofBoxes (a .id) (a .end)) wrapMoof (c .before .before .before .s .given .0 .0) (a .n + 1)) (c .before .head-byte .ensures f)
-    ∙ ap (λ (m : ℕ). afterHead (moofBoxes (a .id) (a .end)) wrapMoof (c .before .before .before .s .given .0 .0) m (stepHead left (a .end) (c .before .before .before .s .given .0 .1 .0) f (a .n) (a .b))) (add-one (a .n))
-    ∙ sym (ap (λ (q : MoofBoxes). stepMoof (a .id) (a .end) q f (a .n) (a .b)) (c .before .before .before .s .given .1))
+    ∙ ap (afterHead (moofBoxes (a .id) (a .end)) wrapMoof (arm .s .given .0 .0) (a .n + 1)) (headed .head-byte .ensures f)
+    ∙ ap (λ (m : ℕ). afterHead (moofBoxes (a .id) (a .end)) wrapMoof (arm .s .given .0 .0) m (stepHead left (a .end) (arm .s .given .0 .1 .0) f (a .n) (a .b))) (add-one (a .n))
+    ∙ sym (ap (λ (q : MoofBoxes). stepMoof (a .id) (a .end) q f (a .n) (a .b)) (arm .s .given .1))
 
 returns-2 : tie.Need-returns-2
 unfolding stepMoof stepBox
 returns-2 c =
-    let a = c .before .before .before .before .before .args in
+    let stepped = c .before in
+    let arm = stepped .before .before in
+    let a = arm .before .before .args in
     λ f. c .after-moof-body .ensures (a .id) f
-    ∙ ap (afterBody (moofBoxes (a .id) (a .end)) wrapMoof (c .before .before .before .s2 .given .0 .0) (a .n + 1)) (c .before .moof-body-byte .ensures f)
-    ∙ ap (λ (m : ℕ). afterBody (moofBoxes (a .id) (a .end)) wrapMoof (c .before .before .before .s2 .given .0 .0) m (stepMoofBody (a .id) (c .before .before .before .s2 .given .0 .1 .0) f (a .n) (a .b))) (add-one (a .n))
-    ∙ sym (ap (λ (q : MoofBoxes). stepMoof (a .id) (a .end) q f (a .n) (a .b)) (c .before .before .before .s2 .given .1))
+    ∙ ap (afterBody (moofBoxes (a .id) (a .end)) wrapMoof (arm .s2 .given .0 .0) (a .n + 1)) (stepped .moof-body-byte .ensures f)
+    ∙ ap (λ (m : ℕ). afterBody (moofBoxes (a .id) (a .end)) wrapMoof (arm .s2 .given .0 .0) m (stepMoofBody (a .id) (arm .s2 .given .0 .1 .0) f (a .n) (a .b))) (add-one (a .n))
+    ∙ sym (ap (λ (q : MoofBoxes). stepMoof (a .id) (a .end) q f (a .n) (a .b)) (arm .s2 .given .1))
 
 pub moof-byte-spec : {M : Type 1} → statement M
 moof-byte-spec =

@@ -1,8 +1,8 @@
+-- `leaf::moof_on` meets its contract, by the definitions of `goOn`, `moofNext`, `unless` and `pick`.
 use borrow.Author.Tests.{eq-eqb, ne-eqb}
 use Rattle.basics.specs.Choose.{pick}
 use Rattle.machine.specs.Faults.{unless}
 use Rattle.machine.specs.Lists.{goOn}
-use Rattle.state.specs.Flow.{left}
 use Rattle.state.specs.Leaf.{moofNext}
 use Rattle.leaf.proofs.moof_on.Statement.{statement}
 use Rattle.leaf.proofs.moof_on.Tie as tie

@@ -1,3 +1,4 @@
+-- `leaf::seen_after` meets its contract, by the definition of `seenNow`.
 use mathlib.Core.Path.{ap, sym}
 use Rattle.state.specs.Leaf.{seenNow}
 use Rattle.leaf.specs.Leaf.{passedOf}

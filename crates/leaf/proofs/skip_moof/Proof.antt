@@ -1,7 +1,7 @@
+-- `leaf::skip_moof` meets its contract, by the laws `pick-yes` and `pick-no`.
 use mathlib.Core.Path.{sym}
 use borrow.Author.Tests.{le-leb, lt-leb}
 use Rattle.basics.proofs.Picks.{pick-yes, pick-no}
-use Rattle.state.specs.Flow.{left}
 use Rattle.leaf.proofs.skip_moof.Statement.{statement}
 use Rattle.leaf.proofs.skip_moof.Tie as tie
 
