@@ -1,3 +1,4 @@
+-- `onward::follow` meets its contract, by those of `still_open` and `onward`.
 use mathlib.Core.Path.{ap, _∙_}
 use mathlib.Core.Option.{Option}
 use Rattle.state.specs.declared.Levels.{Levels}
@@ -14,7 +15,10 @@ onward-requires : tie.Need-onward-requires
 onward-requires c κs = search needs
 
 returns : tie.Need-returns
-returns c = λ leaves work table. c .onward .ensures leaves work table ∙ ap (λ (o : Option Levels). defs.onward (c .before .before .args .top) o (flowing (c .before .before .args .r) work table)) (c .before .still-open .ensures)
+returns c =
+    let at-still-open = c .before in
+    let a = at-still-open .before .args in
+    λ leaves work table. c .onward .ensures leaves work table ∙ ap (λ (o : Option Levels). defs.onward (a .top) o (flowing (a .r) work table)) (at-still-open .still-open .ensures)
 
 pub follow-spec : {M : Type 1} → statement M
 follow-spec = tie.close (tie.spec still-open-requires onward-requires returns)

@@ -1,3 +1,4 @@
+-- `onward::gap_after` meets its contract, by that of `follow`, and by the definition of `lift`.
 use Rattle.machine.specs.Run.{lift}
 use borrow.Author.Needs.{needs}
 use Rattle.onward.proofs.gap_after.Statement.{statement}

@@ -1,3 +1,4 @@
+-- `onward::index_ends` meets its contract, by that of `follow`, and by the laws `material-follows` and `gap-follows`.
 use mathlib.Core.Path.{_∙_}
 use Rattle.onward.specs.Views.{flowing}
 use Rattle.onward.proofs.Laws.{material-follows, gap-follows}
@@ -18,10 +19,15 @@ follow-requires : tie.Need-follow-requires
 follow-requires c κs = search needs
 
 returns : tie.Need-returns
-returns c = λ leaves work table. c .follow .ensures leaves work table ∙ material-follows _ (flowing (c .before .before .before .before .before .before .args .r) work table) _ (c .before .if1 .taken)
+returns c =
+    let test = c .before in
+    let a = test .before .before .before .before .before .args in
+    λ leaves work table. c .follow .ensures leaves work table ∙ material-follows _ (flowing (a .r) work table) _ (test .if1 .taken)
 
 returns-2 : tie.Need-returns-2
-returns-2 c = λ leaves work table. gap-follows _ (flowing (c .before .before .before .before .before .args .r) work table) _ (c .if1 .left)
+returns-2 c =
+    let a = c .before .before .before .before .before .args in
+    λ leaves work table. gap-follows _ (flowing (a .r) work table) _ (c .if1 .left)
 
 pub index-ends-spec : {M : Type 1} → statement M
 index-ends-spec = tie.close (tie.spec add-start add-t9 add-t10 follow-requires returns returns-2)

@@ -1,3 +1,4 @@
+-- `onward::inner_after` meets its contract, by those of `push` and `follow`, by the law `inner-goes`, and by the definition of `lift`.
 use mathlib.Core.Path.{ap, _∙_}
 use Rattle.machine.specs.Run.{lift}
 use Rattle.state.specs.declared.Levels.{Levels}
@@ -24,11 +25,19 @@ enum-known-q-3 : tie.Need-enum-known-q-3
 enum-known-q-3 c = search needs
 
 returns : tie.Need-returns
-returns c = λ work table. inner-goes (c .before .before .before .args .top) (c .before .before .before .args .ls) (c .before .before .before .args .slot) (c .before .before .before .args .q) (c .before .q .given .0 .0) (flowing (c .before .before .before .args .r) work table) (c .before .q .given .1)
+returns c =
+    let arm = c .before in
+    let a = arm .before .before .args in
+    λ work table. inner-goes (a .top) (a .ls) (a .slot) (a .q) (arm .q .given .0 .0) (flowing (a .r) work table) (arm .q .given .1)
 
 returns-2 : tie.Need-returns-2
 unfolding lift
-returns-2 c = λ work table. rw (c .before .before .before .q2 .given .1) (c .follow .ensures (c .before .before .before .before .before .args .r .leaves) work table ∙ ap (λ (m : Levels). defs.follow (c .before .before .before .before .before .args .top) m (flowing (c .before .before .before .before .before .args .r) work table)) (c .before .push .ensures))
+returns-2 c =
+    let at-push = c .before in
+    let arm = at-push .before .before in
+    let a = arm .before .before .args in
+    λ work table. rw (arm .q2 .given .1)
+    (c .follow .ensures (a .r .leaves) work table ∙ ap (λ (m : Levels). defs.follow (a .top) m (flowing (a .r) work table)) (at-push .push .ensures))
 
 returns-3 : tie.Need-returns-3
 unfolding lift

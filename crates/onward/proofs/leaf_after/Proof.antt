@@ -1,3 +1,4 @@
+-- `onward::leaf_after` meets its contract, by that of `follow`, by the law `leaf-done`, and by the definitions of `lift` and `tableAfter`.
 use Prim.Native.Nat.{_*_}
 use Rattle.machine.specs.Run.{lift}
 use Rattle.state.specs.Stages as defs
@@ -29,7 +30,12 @@ unfolding lift tableAfter
 returns c = λ work table. rw (c .before .q .given .1)
 
 returns-2 : tie.Need-returns-2
-returns-2 c = λ work table. rw (c .before .before .before .q2 .given .1) (leaf-done (c .before .before .before .before .before .args .top) (c .before .before .before .before .before .args .ls) (c .before .before .before .before .before .args .slot) (c .before .before .before .before .before .args .r) work table (c .before .before .before .q2 .given .0 .0) (c .follow .result) (c .follow .ensures (c .before .before .before .before .before .args .r .leaves) work (putAll table (recordNumbers * c .before .before .before .before .before .args .r .leaves) (defs.leafRow (c .before .before .before .before .before .args .slot) (c .before .before .before .before .before .args .r .now) (c .before .before .before .q2 .given .0 .0 .first)))))
+returns-2 c =
+    let arm = c .before .before .before in
+    let a = arm .before .before .args in
+    λ work table. rw (arm .q2 .given .1)
+    (leaf-done (a .top) (a .ls) (a .slot) (a .r) work table (arm .q2 .given .0 .0) (c .follow .result)
+    (c .follow .ensures (a .r .leaves) work (putAll table (recordNumbers * a .r .leaves) (defs.leafRow (a .slot) (a .r .now) (arm .q2 .given .0 .0 .first)))))
 
 returns-3 : tie.Need-returns-3
 unfolding lift tableAfter

@@ -1,3 +1,4 @@
+-- `onward::onward` meets its contract, by the definition of `onward`.
 use Rattle.state.specs.Stages as defs
 use borrow.Author.Needs.{needs}
 use Rattle.onward.proofs.onward.Statement.{statement}

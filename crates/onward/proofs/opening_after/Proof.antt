@@ -1,3 +1,4 @@
+-- `onward::opening_after` meets its contract, by that of `index_ends`, and by the definition of `lift`.
 use mathlib.Core.Path.{subst}
 use Rattle.machine.specs.Run.{lift}
 use Rattle.opening.specs.declared.OpeningStep.{OpeningStep}
@@ -13,7 +14,11 @@ enum-known-q-2 : tie.Need-enum-known-q-2
 enum-known-q-2 c = search needs
 
 index-ends-requires : tie.Need-index-ends-requires
-index-ends-requires c κs = subst (λ (q : OpeningStep). EndsIn (c .before .before .before .args .n) q) (c .before .q2 .given .1) (c .before .before .before .pre)
+index-ends-requires c κs =
+    let arm = c .before in
+    let start = arm .before .before in
+    let a = start .args in
+    subst (λ (q : OpeningStep). EndsIn (a .n) q) (arm .q2 .given .1) (start .pre)
 
 enum-known-q-3 : tie.Need-enum-known-q-3
 enum-known-q-3 c = search needs

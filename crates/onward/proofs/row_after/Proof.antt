@@ -1,3 +1,4 @@
+-- `onward::row_after` meets its contract, by that of `put_row`, and by the definition of `tableAfter`.
 use mathlib.Core.Path.{ap, sym, _∙_}
 use Rattle.leaf.specs.declared.LeafStep.{LeafStep}
 use Rattle.onward.specs.Arms.{tableAfter}
@@ -19,18 +20,26 @@ enum-told-2 c = search needs
 
 returns : tie.Need-returns
 unfolding tableAfter
-returns c = sym (ap (λ (q : LeafStep). tableAfter (c .before .before .before .args .leaves) (c .before .before .before .args .slot) (c .before .before .before .args .at) q (c .before .before .before .args .table .now)) (c .enum-told .given .1))
+returns c =
+    let a = c .before .before .before .args in
+    sym (ap (λ (q : LeafStep). tableAfter (a .leaves) (a .slot) (a .at) q (a .table .now)) (c .enum-told .given .1))
 
 same-length : tie.Need-same-length
 same-length c = search needs
 
 returns-2 : tie.Need-returns-2
 unfolding tableAfter
-returns-2 c = c .before .before .put-row .ensures ∙ sym (ap (λ (q : LeafStep). tableAfter (c .before .before .before .before .before .before .before .before .args .leaves) (c .before .before .before .before .before .before .before .before .args .slot) (c .before .before .before .before .before .before .before .before .args .at) q (c .before .before .before .before .before .before .before .before .args .table .now)) (c .before .before .before .before .before .q .given .1))
+returns-2 c =
+    let at-put-row = c .before .before in
+    let arm = at-put-row .before .before .before in
+    let a = arm .before .before .before .args in
+    at-put-row .put-row .ensures ∙ sym (ap (λ (q : LeafStep). tableAfter (a .leaves) (a .slot) (a .at) q (a .table .now)) (arm .q .given .1))
 
 returns-3 : tie.Need-returns-3
 unfolding tableAfter
-returns-3 c = sym (ap (λ (q : LeafStep). tableAfter (c .before .before .before .args .leaves) (c .before .before .before .args .slot) (c .before .before .before .args .at) q (c .before .before .before .args .table .now)) (c .enum-told2 .given .1))
+returns-3 c =
+    let a = c .before .before .before .args in
+    sym (ap (λ (q : LeafStep). tableAfter (a .leaves) (a .slot) (a .at) q (a .table .now)) (c .enum-told2 .given .1))
 
 pub row-after-spec : {M : Type 1} → statement M
 row-after-spec =
