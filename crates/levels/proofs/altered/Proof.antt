@@ -1,3 +1,5 @@
+-- `levels::altered` meets its contract, by those of `sum_over`, `sum_is`, `fills` and `sum_reaches`, by the laws `pick-yes`, `pick-no`, `or-first`,
+-- `or-third` and `late`, and by the definition of `altered`.
 use mathlib.Core.Path.{ap, sym, _∙_}
 use Prim.Native.Nat.{ℕ}
 use mathlib.Core.Bool.{not}
@@ -20,7 +22,10 @@ sum-over-requires : tie.Need-sum-over-requires
 sum-over-requires c κs = search needs
 
 returns-2 : tie.Need-returns-2
-returns-2 c = late (c .before .before .before .before .args .l) (entryOf (c .before .before .before .before .args .e)) (c .before .before .before .before .args .at) (c .before .before .before .before .args .n) (sym (c .before .sum-over .ensures) ∙ c .if2 .taken)
+returns-2 c =
+    let at-sum-over = c .before in
+    let a = at-sum-over .before .before .before .args in
+    late (a .l) (entryOf (a .e)) (a .at) (a .n) (sym (at-sum-over .sum-over .ensures) ∙ c .if2 .taken)
 
 sum-is-requires : tie.Need-sum-is-requires
 sum-is-requires c κs = search needs
@@ -30,14 +35,32 @@ fills-requires c κs = search needs
 
 returns-3 : tie.Need-returns-3
 unfolding altered
-returns-3 c = ap not (c .fills .ensures) ∙ sym (pick-yes _ _ _ (ap (λ (k : ℕ). eqb k (c .before .before .before .before .before .before .before .args .l .count)) (sym (add-one (c .before .before .before .before .before .before .before .args .l .next))) ∙ sym (c .before .before .sum-is .ensures) ∙ c .before .if3 .taken)) ∙ sym (or-third _ _ _ (ne-eqb _ _ (c .before .before .before .before .before .if1 .left)) (sym (c .before .before .before .before .sum-over .ensures) ∙ c .before .before .before .if2 .left))
+returns-3 c =
+    let test3 = c .before in
+    let at-sum-is = test3 .before in
+    let test2 = at-sum-is .before in
+    let at-sum-over = test2 .before in
+    let test1 = at-sum-over .before in
+    let a = test1 .before .before .args in
+    ap not (c .fills .ensures)
+    ∙ sym (pick-yes _ _ _ (ap (λ (k : ℕ). eqb k (a .l .count)) (sym (add-one (a .l .next))) ∙ sym (at-sum-is .sum-is .ensures) ∙ test3 .if3 .taken))
+    ∙ sym (or-third _ _ _ (ne-eqb _ _ (test1 .if1 .left)) (sym (at-sum-over .sum-over .ensures) ∙ test2 .if2 .left))
 
 sum-reaches-requires : tie.Need-sum-reaches-requires
 sum-reaches-requires c κs = search needs
 
 returns-4 : tie.Need-returns-4
 unfolding altered
-returns-4 c = c .sum-reaches .ensures ∙ sym (pick-no _ _ _ (ap (λ (k : ℕ). eqb k (c .before .before .before .before .before .before .before .args .l .count)) (sym (add-one (c .before .before .before .before .before .before .before .args .l .next))) ∙ sym (c .before .before .sum-is .ensures) ∙ c .before .if3 .left)) ∙ sym (or-third _ _ _ (ne-eqb _ _ (c .before .before .before .before .before .if1 .left)) (sym (c .before .before .before .before .sum-over .ensures) ∙ c .before .before .before .if2 .left))
+returns-4 c =
+    let test3 = c .before in
+    let at-sum-is = test3 .before in
+    let test2 = at-sum-is .before in
+    let at-sum-over = test2 .before in
+    let test1 = at-sum-over .before in
+    let a = test1 .before .before .args in
+    c .sum-reaches .ensures
+    ∙ sym (pick-no _ _ _ (ap (λ (k : ℕ). eqb k (a .l .count)) (sym (add-one (a .l .next))) ∙ sym (at-sum-is .sum-is .ensures) ∙ test3 .if3 .left))
+    ∙ sym (or-third _ _ _ (ne-eqb _ _ (test1 .if1 .left)) (sym (at-sum-over .sum-over .ensures) ∙ test2 .if2 .left))
 
 pub altered-spec : {M : Type 1} → statement M
 altered-spec =

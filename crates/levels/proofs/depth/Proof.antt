@@ -1,3 +1,4 @@
+-- `levels::depth` meets its contract, by the definition of `depth`.
 use mathlib.Core.Path.{ap, sym}
 use Rattle.state.specs.Levels.{depth}
 use borrow.Author.Needs.{needs}

@@ -1,3 +1,4 @@
+-- `levels::entry_answer` meets its contract, by those of `altered` and `slot_of`, and by the laws `pick-yes`, `pick-no` and `unaltered`.
 use mathlib.Core.Path.{ap, sym, _∙_}
 use native.Mathlib.Omega.{arith}
 use Rattle.basics.proofs.Picks.{pick-yes, pick-no}
@@ -23,8 +24,11 @@ slot-of-requires c κs =
 
 returns-2 : tie.Need-returns-2
 returns-2 c =
-    ap (λ (s : Slot). read.Stands (c .before .before .before .args .e .inner) s) (c .slot-of .ensures)
-    ∙ sym (pick-no _ _ _ (sym (c .before .before .altered .ensures) ∙ c .before .if1 .left))
+    let test = c .before in
+    let at-altered = test .before in
+    let a = at-altered .before .args in
+    ap (λ (s : Slot). read.Stands (a .e .inner) s) (c .slot-of .ensures)
+    ∙ sym (pick-no _ _ _ (sym (at-altered .altered .ensures) ∙ test .if1 .left))
 
 pub entry-answer-spec : {M : Type 1} → statement M
 entry-answer-spec = tie.close (tie.spec altered-requires returns slot-of-requires returns-2)

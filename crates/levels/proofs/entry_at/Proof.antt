@@ -1,3 +1,4 @@
+-- `levels::entry_at` meets its contract, by that of `word_at`, and by the law `entry-law`.
 use Rattle.levels.proofs.Places.{entry-law}
 use borrow.Author.Needs.{needs}
 use Rattle.levels.proofs.entry_at.Statement.{statement}

@@ -1,3 +1,4 @@
+-- `levels::entry_place` meets its contract, by those of `depth` and `inmost`, and by the laws `depth-most` and `next-most`.
 use mathlib.Core.Path.{ap}
 use native.Mathlib.Omega.{arith}
 use Rattle.levels.proofs.Places.{depth-most, next-most}
@@ -16,13 +17,35 @@ inmost-requires : tie.Need-inmost-requires
 inmost-requires c κs = search needs
 
 mul-result : tie.Need-mul-result
-mul-result c = omega (arith, c .before .depth .ensures, depth-most (c .before .before .args .ls) .0, depth-most (c .before .before .args .ls) .1, next-most (c .before .before .args .ls) (c .before .before .pre) .0, next-most (c .before .before .args .ls) (c .before .before .pre) .1)
+mul-result c =
+    let deep = c .before in
+    let start = deep .before in
+    let a = start .args in
+    omega (arith, deep .depth .ensures, depth-most (a .ls) .0, depth-most (a .ls) .1, next-most (a .ls) (start .pre) .0, next-most (a .ls) (start .pre) .1)
 
 mul-result-2 : tie.Need-mul-result-2
-mul-result-2 c = omega (arith, ap (λ (l : Level). l .next) (c .before .inmost .ensures), depth-most (c .before .before .before .args .ls) .0, depth-most (c .before .before .before .args .ls) .1, next-most (c .before .before .before .args .ls) (c .before .before .before .pre) .0, next-most (c .before .before .before .args .ls) (c .before .before .before .pre) .1)
+mul-result-2 c =
+    let innermost = c .before in
+    let start = innermost .before .before in
+    let a = start .args in
+    omega
+    (arith, ap (λ (l : Level). l .next) (innermost .inmost .ensures), depth-most (a .ls) .0, depth-most (a .ls) .1, next-most (a .ls) (start .pre) .0, next-most (a .ls) (start .pre) .1)
 
 add-result : tie.Need-add-result
-add-result c = omega (arith, c .before .before .depth .ensures, ap (λ (l : Level). l .next) (c .before .inmost .ensures), depth-most (c .before .before .before .args .ls) .0, depth-most (c .before .before .before .args .ls) .1, next-most (c .before .before .before .args .ls) (c .before .before .before .pre) .0, next-most (c .before .before .before .args .ls) (c .before .before .before .pre) .1)
+add-result c =
+    let innermost = c .before in
+    let deep = innermost .before in
+    let start = deep .before in
+    let a = start .args in
+    omega (
+      arith,
+      deep .depth .ensures,
+      ap (λ (l : Level). l .next) (innermost .inmost .ensures),
+      depth-most (a .ls) .0,
+      depth-most (a .ls) .1,
+      next-most (a .ls) (start .pre) .0,
+      next-most (a .ls) (start .pre) .1,
+    )
 
 returns : tie.Need-returns
 returns c = omega (arith, c .before .before .depth .ensures, ap (λ (l : Level). l .next) (c .before .inmost .ensures))

@@ -1,3 +1,4 @@
+-- `levels::fills` meets its contract, by that of `sum_is`.
 use mathlib.Core.Path.{ap, sym, _∙_}
 use Prim.Native.Nat.{_+_}
 use mathlib.Core.Bool.{Bool, _&&_}
@@ -13,10 +14,17 @@ sum-is-requires-2 : tie.Need-sum-is-requires-2
 sum-is-requires-2 c κs = search needs
 
 returns : tie.Need-returns
-returns c = c .sum-is2 .ensures ∙ sym (ap (λ (t : Bool). t && eqb (c .before .before .before .args .at + c .before .before .before .args .e .duration) (c .before .before .before .args .l .until)) (sym (c .before .before .sum-is .ensures) ∙ c .before .if1 .taken))
+returns c =
+    let test = c .before in
+    let at-sum-is = test .before in
+    let a = at-sum-is .before .args in
+    c .sum-is2 .ensures ∙ sym (ap (λ (t : Bool). t && eqb (a .at + a .e .duration) (a .l .until)) (sym (at-sum-is .sum-is .ensures) ∙ test .if1 .taken))
 
 returns-2 : tie.Need-returns-2
-returns-2 c = sym (ap (λ (t : Bool). t && eqb (c .before .before .args .at + c .before .before .args .e .duration) (c .before .before .args .l .until)) (sym (c .before .sum-is .ensures) ∙ c .if1 .left))
+returns-2 c =
+    let at-sum-is = c .before in
+    let a = at-sum-is .before .args in
+    sym (ap (λ (t : Bool). t && eqb (a .at + a .e .duration) (a .l .until)) (sym (at-sum-is .sum-is .ensures) ∙ c .if1 .left))
 
 pub fills-spec : {M : Type 1} → statement M
 fills-spec = tie.close (tie.spec sum-is-requires sum-is-requires-2 returns returns-2)

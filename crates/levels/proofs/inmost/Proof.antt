@@ -1,3 +1,4 @@
+-- `levels::inmost` meets its contract, by the definition of `inmost`.
 use mathlib.Core.Path.{ap, sym}
 use Rattle.state.specs.Levels.{inmost}
 use borrow.Author.Needs.{needs}

@@ -1,3 +1,4 @@
+-- `levels::next_entry` meets its contract, by those of `entry_place` and `entry_at`, and by the law `place-fits`.
 use mathlib.Core.Path.{ap, _∙_}
 use Prim.Native.Nat.{ℕ}
 use native.Mathlib.Omega.{arith}
@@ -11,7 +12,10 @@ entry-place-requires : tie.Need-entry-place-requires
 entry-place-requires c κs = search needs
 
 entry-at-requires : tie.Need-entry-at-requires
-entry-at-requires c κs = omega (arith, c .entry-place .ensures, place-fits (c .before .before .args .ls) (c .before .before .pre .1) (c .before .before .pre .2), c .before .before .pre .0)
+entry-at-requires c κs =
+    let start = c .before .before in
+    let a = start .args in
+    omega (arith, c .entry-place .ensures, place-fits (a .ls) (start .pre .1) (start .pre .2), start .pre .0)
 
 returns : tie.Need-returns
 returns c = c .entry-at .ensures ∙ ap (λ (k : ℕ). entryAt (c .before .before .before .args .work .now) k) (c .before .entry-place .ensures)

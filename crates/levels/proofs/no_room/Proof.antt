@@ -1,3 +1,4 @@
+-- `levels::no_room` meets its contract, by that of `room`.
 use mathlib.Core.Path.{ap}
 use lib.Dec.{leb}
 use Prim.Native.Nat.{ℕ}

@@ -1,3 +1,4 @@
+-- `levels::push` meets its contract, by the definition of `push`.
 use mathlib.Core.Path.{ap, sym}
 use Rattle.state.specs.Levels.{push}
 use Rattle.state.specs.declared.Levels.{Levels}

@@ -1,3 +1,4 @@
+-- `levels::put_at` meets its contract, by what the library says of a list set past its end, and else by what the store says.
 use mathlib.Core.Path.{sym}
 use lib.Seq.{set-out}
 use borrow.Author.Needs.{needs}

@@ -1,3 +1,4 @@
+-- `levels::put_row` meets its contract, by those of `put_at` and `less`, and by the laws `row-put` and `row-alike`.
 use mathlib.Core.Path.{_∙_}
 use Rattle.levels.proofs.Rows.{row-put, row-alike}
 use borrow.Author.Needs.{needs}
@@ -50,7 +51,18 @@ same-length : tie.Need-same-length
 same-length c = search needs
 
 returns : tie.Need-returns
-returns c = row-put _ _ _ _ _ _ _ _ _ _ _ _ _ _ (c .before .before .before .before .before .before .before .before .before .before .before .before .before .before .before .before .before .before .before .before .before .before .before .before .put-at .ensures) (c .before .before .before .before .before .before .before .before .before .before .before .before .before .before .before .before .before .before .before .put-at2 .ensures) (c .before .before .before .before .before .before .before .before .before .before .before .before .before .before .before .put-at3 .ensures) (c .before .before .before .before .before .before .before .before .before .before .put-at4 .ensures) (c .before .before .before .before .before .before .put-at5 .ensures) (c .before .before .put-at6 .ensures) ∙ row-alike _ _ _ _ _ _ _ _ _ _ (c .before .before .before .before .before .before .before .before .before .before .before .before .before .before .before .before .before .before .before .before .less .ensures) (c .before .before .before .before .before .before .before .before .before .before .before .less2 .ensures)
+returns c =
+    let sixth = c .before .before in
+    let fifth = sixth .before .before .before .before in
+    let fourth = fifth .before .before .before .before in
+    let duration = fourth .before in
+    let third = duration .before .before .before .before in
+    let second = third .before .before .before .before in
+    let size = second .before in
+    let first = size .before .before .before .before in
+    row-put _ _ _ _ _ _ _ _ _ _ _ _ _ _ (first .put-at .ensures) (second .put-at2 .ensures) (third .put-at3 .ensures) (fourth .put-at4 .ensures)
+    (fifth .put-at5 .ensures) (sixth .put-at6 .ensures)
+    ∙ row-alike _ _ _ _ _ _ _ _ _ _ (size .less .ensures) (duration .less2 .ensures)
 
 pub put-row-spec : {M : Type 1} → statement M
 put-row-spec =

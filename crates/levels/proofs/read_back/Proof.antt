@@ -1,3 +1,4 @@
+-- `levels::read_back` meets its contract, by those of `next_entry`, `inmost` and `entry_answer`.
 use mathlib.Core.Path.{ap, _∙_}
 use Rattle.state.specs.declared.Level.{Level}
 use Rattle.state.specs.Levels.{Entry, inmost}
@@ -17,10 +18,12 @@ entry-answer-requires c κs = search needs
 
 returns : tie.Need-returns
 returns c =
-    let a = c .before .before .before .before .args in
+    let innermost = c .before in
+    let at-next-entry = innermost .before in
+    let a = at-next-entry .before .before .args in
     c .entry-answer .ensures
-    ∙ ap (λ (l : Level). readOf l (entryOf (c .before .before .next-entry .result)) (a .at) (a .n)) (c .before .inmost .ensures)
-    ∙ ap (λ (e : Entry). readOf (inmost (a .ls)) e (a .at) (a .n)) (c .before .before .next-entry .ensures)
+    ∙ ap (λ (l : Level). readOf l (entryOf (at-next-entry .next-entry .result)) (a .at) (a .n)) (innermost .inmost .ensures)
+    ∙ ap (λ (e : Entry). readOf (inmost (a .ls)) e (a .at) (a .n)) (at-next-entry .next-entry .ensures)
 
 pub read-back-spec : {M : Type 1} → statement M
 read-back-spec =

@@ -1,3 +1,4 @@
+-- `levels::room` meets its contract, by the laws `room-most` and `room-less`.
 use Rattle.levels.proofs.Rows.{room-most, room-less}
 use Rattle.levels.proofs.room.Statement.{statement}
 use Rattle.levels.proofs.room.Tie as tie

@@ -1,3 +1,4 @@
+-- `levels::still_four` meets its contract, by that of `still_three`, by the laws `pick-yes` and `pick-no`, and by the definition of `stillFour`.
 use mathlib.Core.Path.{sym, _∙_}
 use borrow.Author.Tests.{eq-eqb, ne-eqb}
 use Rattle.basics.proofs.Picks.{pick-yes, pick-no}

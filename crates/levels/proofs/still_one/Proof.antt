@@ -1,3 +1,4 @@
+-- `levels::still_one` meets its contract, by the laws `pick-yes` and `pick-no`, and by the definition of `stillOne`.
 use mathlib.Core.Path.{sym}
 use borrow.Author.Tests.{eq-eqb, ne-eqb}
 use Rattle.basics.proofs.Picks.{pick-yes, pick-no}

@@ -1,3 +1,5 @@
+-- `levels::still_open` meets its contract, by those of `still_one`, `still_two`, `still_three` and `still_four`, and by the definitions of `stillOpen`
+-- and `stillFour`.
 use mathlib.Core.Path.{ap, sym, _∙_}
 use Rattle.state.specs.Levels.{stillOpen}
 use Rattle.levels.specs.Views.{stillFour}

@@ -1,3 +1,4 @@
+-- `levels::still_two` meets its contract, by that of `still_one`, by the laws `pick-yes` and `pick-no`, and by the definition of `stillTwo`.
 use mathlib.Core.Path.{sym, _∙_}
 use borrow.Author.Tests.{eq-eqb, ne-eqb}
 use Rattle.basics.proofs.Picks.{pick-yes, pick-no}

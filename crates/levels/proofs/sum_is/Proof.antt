@@ -1,3 +1,4 @@
+-- `levels::sum_is` meets its contract, by the laws `is-sum` and `is-less`.
 use Rattle.levels.proofs.Sums.{is-sum, is-less}
 use Rattle.levels.proofs.sum_is.Statement.{statement}
 use Rattle.levels.proofs.sum_is.Tie as tie

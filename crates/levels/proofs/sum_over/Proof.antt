@@ -1,3 +1,4 @@
+-- `levels::sum_over` meets its contract, by the laws `over-sum` and `over-less`.
 use Rattle.levels.proofs.Sums.{over-sum, over-less}
 use Rattle.levels.proofs.sum_over.Statement.{statement}
 use Rattle.levels.proofs.sum_over.Tie as tie

@@ -1,3 +1,4 @@
+-- `levels::sum_reaches` meets its contract, by the laws `reaches-sum` and `reaches-less`.
 use Rattle.levels.proofs.Sums.{reaches-sum, reaches-less}
 use Rattle.levels.proofs.sum_reaches.Statement.{statement}
 use Rattle.levels.proofs.sum_reaches.Tie as tie

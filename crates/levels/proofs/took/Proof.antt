@@ -1,3 +1,4 @@
+-- `levels::took` meets its contract, since the entry after the next is one more.
 use mathlib.Core.Path.{ap}
 use Prim.Native.Nat.{ℕ}
 use native.Mathlib.Numerals.{add-one}
@@ -9,7 +10,9 @@ add-t2 : tie.Need-add-t2
 add-t2 c = search needs
 
 returns : tie.Need-returns
-returns c = ap (λ (k : ℕ). record { next = k; count = c .before .args .l .count; end = c .before .args .l .end; until = c .before .args .l .until }) (add-one (c .before .args .l .next))
+returns c =
+    let a = c .before .args in
+    ap (λ (k : ℕ). record { next = k; count = a .l .count; end = a .l .end; until = a .l .until }) (add-one (a .l .next))
 
 pub took-spec : {M : Type 1} → statement M
 took-spec = tie.close (tie.spec add-t2 returns)

@@ -1,3 +1,4 @@
+-- `levels::took_entry` meets its contract, by that of `took`, by the law `next-of`, and by the definitions of `inmost` and `tookEntry`.
 use mathlib.Core.Path.{ap, sym, _∙_}
 use Rattle.levels.proofs.Places.{next-of}
 use Rattle.state.specs.Levels.{inmost, tookEntry}
@@ -12,28 +13,44 @@ enum-known-ls c = search needs
 
 took-requires : tie.Need-took-requires
 unfolding inmost
-took-requires c κs = next-of (c .before .before .before .args .ls) _ (c .before .ls .given .1) (c .before .before .before .pre)
+took-requires c κs =
+    let arm = c .before in
+    let start = arm .before .before in
+    let a = start .args in
+    next-of (a .ls) _ (arm .ls .given .1) (start .pre)
 
 enum-known-ls-2 : tie.Need-enum-known-ls-2
 enum-known-ls-2 c = search needs
 
 took-requires-2 : tie.Need-took-requires-2
 unfolding inmost
-took-requires-2 c κs = next-of (c .before .before .before .args .ls) _ (c .before .ls2 .given .1) (c .before .before .before .pre)
+took-requires-2 c κs =
+    let arm = c .before in
+    let start = arm .before .before in
+    let a = start .args in
+    next-of (a .ls) _ (arm .ls2 .given .1) (start .pre)
 
 enum-known-ls-3 : tie.Need-enum-known-ls-3
 enum-known-ls-3 c = search needs
 
 took-requires-3 : tie.Need-took-requires-3
 unfolding inmost
-took-requires-3 c κs = next-of (c .before .before .before .args .ls) _ (c .before .ls3 .given .1) (c .before .before .before .pre)
+took-requires-3 c κs =
+    let arm = c .before in
+    let start = arm .before .before in
+    let a = start .args in
+    next-of (a .ls) _ (arm .ls3 .given .1) (start .pre)
 
 enum-known-ls-4 : tie.Need-enum-known-ls-4
 enum-known-ls-4 c = search needs
 
 took-requires-4 : tie.Need-took-requires-4
 unfolding inmost
-took-requires-4 c κs = next-of (c .before .before .before .args .ls) _ (c .before .ls4 .given .1) (c .before .before .before .pre)
+took-requires-4 c κs =
+    let arm = c .before in
+    let start = arm .before .before in
+    let a = start .args in
+    next-of (a .ls) _ (arm .ls4 .given .1) (start .pre)
 
 returns : tie.Need-returns
 unfolding tookEntry
@@ -45,11 +62,15 @@ returns-2 c = ap (λ (q : Level). levels.Two (c .before .before .ls2 .given .0 .
 
 returns-3 : tie.Need-returns-3
 unfolding tookEntry
-returns-3 c = ap (λ (q : Level). levels.Three (c .before .before .ls3 .given .0 .0) (c .before .before .ls3 .given .0 .1 .0) q) (c .took3 .ensures) ∙ sym (ap tookEntry (c .before .before .ls3 .given .1))
+returns-3 c =
+    let arm = c .before .before in
+    ap (λ (q : Level). levels.Three (arm .ls3 .given .0 .0) (arm .ls3 .given .0 .1 .0) q) (c .took3 .ensures) ∙ sym (ap tookEntry (arm .ls3 .given .1))
 
 returns-4 : tie.Need-returns-4
 unfolding tookEntry
-returns-4 c = ap (λ (q : Level). levels.Four (c .before .before .ls4 .given .0 .0) (c .before .before .ls4 .given .0 .1 .0) (c .before .before .ls4 .given .0 .1 .1 .0) q) (c .took4 .ensures) ∙ sym (ap tookEntry (c .before .before .ls4 .given .1))
+returns-4 c =
+    let arm = c .before .before in
+    ap (λ (q : Level). levels.Four (arm .ls4 .given .0 .0) (arm .ls4 .given .0 .1 .0) (arm .ls4 .given .0 .1 .1 .0) q) (c .took4 .ensures) ∙ sym (ap tookEntry (arm .ls4 .given .1))
 
 pub took-entry-spec : {M : Type 1} → statement M
 took-entry-spec =

@@ -1,3 +1,4 @@
+-- `levels::word_at` meets its contract, by that of `wide`, and by the law `word-law`.
 use Rattle.levels.proofs.Places.{word-law}
 use borrow.Author.Needs.{needs}
 use Rattle.levels.proofs.word_at.Statement.{statement}
@@ -55,7 +56,12 @@ add-result-3 : tie.Need-add-result-3
 add-result-3 c = search needs
 
 returns : tie.Need-returns
-returns c = word-law _ _ _ _ _ _ (c .before .before .before .before .before .before .before .before .before .pre) (c .before .before .before .before .before .before .wide .ensures .0) (c .before .before .before .before .wide2 .ensures .0) (c .before .before .wide3 .ensures .0) (c .wide4 .ensures .0)
+returns c =
+    let third = c .before .before in
+    let second = third .before .before in
+    let first = second .before .before in
+    let asked = first .before .before .before .pre in
+    word-law _ _ _ _ _ _ asked (first .wide .ensures .0) (second .wide2 .ensures .0) (third .wide3 .ensures .0) (c .wide4 .ensures .0)
 
 pub word-at-spec : {M : Type 1} → statement M
 word-at-spec =
