@@ -1,4 +1,4 @@
-use Prim.Native.Nat.{_-_}
+-- `header::first_byte` meets its contract, by the definitions of `stepHead`, `unless`, `shows` and `lowest`.
 use borrow.Author.Tests.{lt-ltb, le-ltb}
 use Rattle.machine.specs.Faults.{shows, lowest, unless}
 use Rattle.machine.specs.Heads.{stepHead}

@@ -1,4 +1,5 @@
-use Prim.Native.Nat.{_-_}
+-- `header::head_byte` meets its contract, by those of `first_byte`, `size_byte`, `kind_byte` and `large_byte`, by the law `spelled-small`, and by the
+-- definition of `headBounds`.
 use mathlib.Core.Path.{subst}
 use native.Mathlib.Omega.{arith}
 use Rattle.machine.specs.declared.Head.{Head}

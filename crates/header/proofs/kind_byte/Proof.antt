@@ -1,6 +1,5 @@
-use Prim.Native.Nat.{_-_}
+-- `header::kind_byte` meets its contract, by those of `spelled` and `sized_by`, and by the laws `kind-last` and `kind-more`.
 use mathlib.Core.Path.{sym, _∙_}
-use Rattle.state.specs.Flow.{left}
 use Rattle.header.proofs.Steps.{kind-last, kind-more}
 use borrow.Author.Needs.{needs}
 use Rattle.header.proofs.kind_byte.Statement.{statement}

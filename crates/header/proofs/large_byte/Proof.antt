@@ -1,4 +1,4 @@
-use Prim.Native.Nat.{_-_}
+-- `header::large_byte` meets its contract, by that of `spelled`, and by the laws `large-last` and `large-more`.
 use mathlib.Core.Path.{sym}
 use Rattle.header.proofs.Steps.{large-last, large-more}
 use borrow.Author.Needs.{needs}

@@ -1,3 +1,4 @@
+-- `header::refused_head` meets its contract, by the case that was matched.
 use mathlib.Core.Path.{ap, sym}
 use Rattle.header.specs.Views.{refusalHead}
 use borrow.Author.Needs.{needs}

@@ -1,4 +1,4 @@
-use Prim.Native.Nat.{_-_}
+-- `header::size_byte` meets its contract, by that of `spelled`, and by the laws `size-last` and `size-more`.
 use mathlib.Core.Path.{sym}
 use Rattle.header.proofs.Steps.{size-last, size-more}
 use borrow.Author.Needs.{needs}

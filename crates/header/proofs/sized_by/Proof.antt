@@ -1,4 +1,4 @@
-use Prim.Native.Nat.{_-_}
+-- `header::sized_by` meets its contract, by the definitions of `sized`, `pick`, `unless`, `shows` and `lowest`.
 use borrow.Author.Tests.{lt-ltb, le-ltb, eq-eqb, ne-eqb}
 use Rattle.basics.specs.Choose.{pick}
 use Rattle.machine.specs.Faults.{shows, lowest, unless}
