@@ -1,3 +1,4 @@
+-- `index::byte_place` meets its contract, by those of `part_of` and `word_place`, and by the laws `word-most` and `part-most`.
 use native.Mathlib.Omega.{arith}
 use Rattle.state.proofs.RangeNumbers.{word-most}
 use Rattle.index.proofs.Numbers.{part-most}
@@ -19,16 +20,18 @@ word-place-requires c κs = search needs
 
 add-result-2 : tie.Need-add-result-2
 add-result-2 c =
-    omega
-    (arith, part-most (c .before .before .before .args .p) (c .before .before .before .pre .0), word-most (c .before .before .before .args .part))
+    let start = c .before .before .before in
+    let a = start .args in
+    omega (arith, part-most (a .p) (start .pre .0), word-most (a .part))
 
 sub-result : tie.Need-sub-result
 sub-result c = search needs
 
 add-result-3 : tie.Need-add-result-3
 add-result-3 c =
-    omega
-    (arith, part-most (c .before .before .before .args .p) (c .before .before .before .pre .0), word-most (c .before .before .before .args .part))
+    let start = c .before .before .before in
+    let a = start .args in
+    omega (arith, part-most (a .p) (start .pre .0), word-most (a .part))
 
 returns : tie.Need-returns
 returns c = search needs

@@ -1,3 +1,5 @@
+-- `index::close_index` meets its contract, by those of `too_much`, `unless_shown` and `other_sums`, and by the definitions of `closeSidx` and
+-- `sumFaults`.
 use Rattle.state.specs.Sidx.{closeSidx, sumFaults}
 use borrow.Author.Needs.{needs}
 use Rattle.index.proofs.close_index.Statement.{statement}
@@ -17,7 +19,9 @@ enum-known-p c = search needs
 
 other-sums-requires : tie.Need-other-sums-requires
 other-sums-requires c κs =
-    (rw (c .before .p .given .1) at (c .before .before .before .pre .0), c .before .before .before .pre .1, c .before .before .before .pre .2)
+    let arm = c .before in
+    let asked = arm .before .before .pre in
+    (rw (arm .p .given .1) at (asked .0), asked .1, asked .2)
 
 unless-shown-requires-2 : tie.Need-unless-shown-requires-2
 unless-shown-requires-2 c κs = search needs

@@ -1,3 +1,5 @@
+-- `index::count_end` meets its contract, by those of `no_count` and `unless_shown`, by the law `first-lower`, and by the definitions of `fieldEnds` and
+-- `countFaults`.
 use native.Mathlib.Omega.{arith}
 use Rattle.index.proofs.Laws.{first-lower}
 use Rattle.state.specs.Sidx.{fieldEnds, countFaults}

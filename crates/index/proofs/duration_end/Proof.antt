@@ -1,3 +1,4 @@
+-- `index::duration_end` meets its contract, by the definition of `entryEnds`.
 use mathlib.Core.Path.{refl}
 use Rattle.state.specs.Sidx.{entryEnds}
 use borrow.Author.Needs.{needs}

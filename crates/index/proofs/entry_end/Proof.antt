@@ -1,3 +1,4 @@
+-- `index::entry_end` meets its contract, by those of `size_end`, `duration_end` and `sap_end`.
 use Rattle.state.specs.Calls.{flowOf}
 use borrow.Author.Needs.{needs}
 use Rattle.index.proofs.entry_end.Statement.{statement}

@@ -1,3 +1,5 @@
+-- `index::field_byte` meets its contract, by those of `spelled`, `field_end` and `next_field`, and by the laws `field-small`, `field-ended`,
+-- `field-last` and `field-on`.
 use mathlib.Core.Path.{_∙_}
 use native.Mathlib.Omega.{arith}
 use Rattle.state.specs.Calls.{flowOf}
@@ -15,15 +17,22 @@ add-field-end : tie.Need-add-field-end
 add-field-end c = search needs
 
 field-end-requires : tie.Need-field-end-requires
-field-end-requires c κs = let a = c .before .before .args in (
-  field-ended (a .part) (a .draft) (a .more) (a .acc) (c .before .before .pre .0) (a .b) (search needs) _ (c .before .spelled .ensures) (c .if1 .taken),
-  omega arith,
-)
+field-end-requires c κs =
+    let spelt = c .before in
+    let start = spelt .before in
+    let a = start .args in (
+      field-ended (a .part) (a .draft) (a .more) (a .acc) (start .pre .0) (a .b) (search needs) _ (spelt .spelled .ensures) (c .if1 .taken),
+      omega arith,
+    )
 
 returns : tie.Need-returns
-returns c = let a = c .before .before .before .args in λ leaves last work table.
-    c .field-end .ensures leaves last work table
-    ∙ field-last (placeOf (a .p)) (a .span) (a .n) (a .b) _ (a .part) (a .draft) (a .more) (a .acc) (flowOf leaves (a .at) last work table) (c .before .before .spelled .ensures) (c .before .if1 .taken)
+returns c =
+    let test = c .before in
+    let spelt = test .before in
+    let a = spelt .before .args in
+    λ leaves last work table. c .field-end .ensures leaves last work table
+    ∙ field-last (placeOf (a .p)) (a .span) (a .n) (a .b) _ (a .part) (a .draft) (a .more) (a .acc) (flowOf leaves (a .at) last work table) (spelt .spelled .ensures)
+    (test .if1 .taken)
 
 sub-next-field : tie.Need-sub-next-field
 sub-next-field c = search needs
@@ -32,9 +41,12 @@ next-field-requires : tie.Need-next-field-requires
 next-field-requires c κs = search needs
 
 returns-2 : tie.Need-returns-2
-returns-2 c = let a = c .before .before .before .args in λ leaves last work table.
-    rw (c .next-field .ensures)
-    (field-on (placeOf (a .p)) (a .span) (a .n) (a .b) _ (a .part) (a .draft) (a .more) (a .acc) (flowOf leaves (a .at) last work table) (c .before .before .spelled .ensures) (c .before .if1 .left))
+returns-2 c =
+    let test = c .before in
+    let spelt = test .before in
+    let a = spelt .before .args in
+    λ leaves last work table. rw (c .next-field .ensures)
+    (field-on (placeOf (a .p)) (a .span) (a .n) (a .b) _ (a .part) (a .draft) (a .more) (a .acc) (flowOf leaves (a .at) last work table) (spelt .spelled .ensures) (test .if1 .left))
 
 pub field-byte-spec : {M : Type 1} → statement M
 field-byte-spec =

@@ -1,3 +1,5 @@
+-- `index::field_end` meets its contract, by those of `version_end`, `next_field`, `id_end`, `scale_end`, `time_end`, `offset_end` and `count_end`,
+-- and by the definitions of `indexMost` and `fieldEnds`.
 use Rattle.state.specs.Sidx.{fieldEnds}
 use Rattle.state.specs.Ranges.{indexMost}
 use Rattle.state.specs.Calls.{flowOf}

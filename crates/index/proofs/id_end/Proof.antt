@@ -1,3 +1,4 @@
+-- `index::id_end` meets its contract, by that of `unless_shown`, and by the definitions of `fieldEnds`, `idFaults` and `unless`.
 use Rattle.machine.specs.Faults.{unless}
 use Rattle.state.specs.Sidx.{fieldEnds, idFaults}
 use borrow.Author.Needs.{needs}

@@ -1,3 +1,5 @@
+-- `index::index_byte` meets its contract, by those of `field_byte`, `byte_place`, `spelled`, `entry_end` and `next_entry`, and by the laws of
+-- `Numbers` and `Steps`.
 use mathlib.Core.Path.{_∙_}
 use native.Mathlib.Omega.{arith}
 use Rattle.index.proofs.Numbers.{place-fits, entry-small, entry-more, entry-ended, entry-summed}
@@ -10,47 +12,66 @@ enum-known-s : tie.Need-enum-known-s
 enum-known-s c = search needs
 
 field-byte-requires : tie.Need-field-byte-requires
-field-byte-requires c κs = (rw (c .before .s .given .1) at (c .before .before .before .before .pre .2), c .before .before .before .before .pre .3)
+field-byte-requires c κs =
+    let arm = c .before in
+    let asked = arm .before .before .before .pre in
+    (rw (arm .s .given .1) at (asked .2), asked .3)
 
 enum-known-s-2 : tie.Need-enum-known-s-2
 enum-known-s-2 c = search needs
 
 byte-place-requires : tie.Need-byte-place-requires
-byte-place-requires c κs = (
-  c .before .before .before .before .pre .0,
-  entry-summed (c .before .s2 .given .1) (c .before .before .before .before .pre .2),
-  entry-more (c .before .s2 .given .1) (c .before .before .before .before .pre .2),
-)
+byte-place-requires c κs =
+    let arm = c .before in
+    let asked = arm .before .before .before .pre in (
+      asked .0,
+      entry-summed (arm .s2 .given .1) (asked .2),
+      entry-more (arm .s2 .given .1) (asked .2),
+    )
 
 slice-write-work : tie.Need-slice-write-work
 slice-write-work c =
+    let arm = c .before .before in
+    let start = arm .before .before .before in
+    let a = start .args in
     omega (
       arith,
-      place-fits (c .before .before .before .before .before .args .p) (c .byte-place .result) (c .before .before .s2 .given .1)
-          (c .before .before .before .before .before .pre .2) (c .before .before .before .before .before .pre .0) (c .byte-place .ensures),
+      place-fits (a .p) (c .byte-place .result) (arm .s2 .given .1) (start .pre .2) (start .pre .0) (c .byte-place .ensures),
     )
 
 spelled-requires : tie.Need-spelled-requires
-spelled-requires c κs = entry-small (c .before .before .s2 .given .1) (c .before .before .before .before .before .pre .2)
+spelled-requires c κs =
+    let arm = c .before .before in
+    let asked = arm .before .before .before .pre in
+    entry-small (arm .s2 .given .1) (asked .2)
 
 add-entry-end : tie.Need-add-entry-end
 add-entry-end c = search needs
 
 entry-end-requires : tie.Need-entry-end-requires
-entry-end-requires c κs = (
-  c .before .before .before .before .before .before .before .pre .1,
-  entry-summed (c .before .before .before .before .s2 .given .1) (c .before .before .before .before .before .before .before .pre .2),
-  entry-ended (c .before .before .before .before .s2 .given .1) (c .before .before .before .before .before .before .before .pre .2) (c .before .before .before .before .before .before .before .args .b) (search needs) _ (c .before .spelled .ensures) (c .if1 .taken),
-  omega arith,
-)
+entry-end-requires c κs =
+    let spelt = c .before in
+    let arm = spelt .before .before .before in
+    let start = arm .before .before .before in
+    let a = start .args in (
+      start .pre .1,
+      entry-summed (arm .s2 .given .1) (start .pre .2),
+      entry-ended (arm .s2 .given .1) (start .pre .2) (a .b) (search needs) _ (spelt .spelled .ensures) (c .if1 .taken),
+      omega arith,
+    )
 
 same-length : tie.Need-same-length
 same-length c = search needs
 
 returns : tie.Need-returns
-returns c = λ leaves last table.
-    c .entry-end .ensures leaves last _ table ∙ entry-last _ _ _ _ _ _ _ _ _ _ _ (c .before .before .before .before .before .s2 .given .1)
-    (c .before .before .spelled .ensures) (rw (c .before .before .before .byte-place .ensures)) (c .before .if1 .taken)
+returns c =
+    let test = c .before in
+    let spelt = test .before in
+    let at-byte-place = spelt .before in
+    let arm = at-byte-place .before .before in
+    λ leaves last table.
+    c .entry-end .ensures leaves last _ table ∙ entry-last _ _ _ _ _ _ _ _ _ _ _ (arm .s2 .given .1)
+    (spelt .spelled .ensures) (rw (at-byte-place .byte-place .ensures)) (test .if1 .taken)
 
 sub-next-entry : tie.Need-sub-next-entry
 sub-next-entry c = search needs
@@ -65,10 +86,13 @@ same-length-2 : tie.Need-same-length-2
 same-length-2 c = search needs
 
 returns-3 : tie.Need-returns-3
-returns-3 c = λ leaves last table.
-    rw (c .next-entry .ensures)
-    (entry-on _ _ _ _ _ _ _ _ _ _ _ (c .before .before .before .before .before .s2 .given .1) (c .before .before .spelled .ensures)
-    (rw (c .before .before .before .byte-place .ensures)) (c .before .if1 .left))
+returns-3 c =
+    let test = c .before in
+    let spelt = test .before in
+    let at-byte-place = spelt .before in
+    let arm = at-byte-place .before .before in
+    λ leaves last table.
+    rw (c .next-entry .ensures) (entry-on _ _ _ _ _ _ _ _ _ _ _ (arm .s2 .given .1) (spelt .spelled .ensures) (rw (at-byte-place .byte-place .ensures)) (test .if1 .left))
 
 pub index-byte-spec : {M : Type 1} → statement M
 index-byte-spec =

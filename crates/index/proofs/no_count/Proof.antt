@@ -1,3 +1,4 @@
+-- `index::no_count` meets its contract, by its test, which decides that of the definition.
 use borrow.Author.Tests.{eq-eqb, ne-eqb}
 use Rattle.index.proofs.no_count.Statement.{statement}
 use Rattle.index.proofs.no_count.Tie as tie

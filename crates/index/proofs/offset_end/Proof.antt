@@ -1,3 +1,4 @@
+-- `index::offset_end` meets its contract, by that of `unless_shown`, and by the definitions of `fieldEnds`, `offsetFaults` and `unless`.
 use Rattle.machine.specs.Faults.{unless}
 use Rattle.state.specs.Sidx.{fieldEnds, offsetFaults}
 use borrow.Author.Needs.{needs}

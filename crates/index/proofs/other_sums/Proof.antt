@@ -1,3 +1,4 @@
+-- `index::other_sums` meets its contract, by the law `until-same`.
 use borrow.Author.Tests.{eq-eqb, ne-eqb}
 use Rattle.index.proofs.Numbers.{until-same}
 use borrow.Author.Needs.{needs}
@@ -14,7 +15,10 @@ sub-result : tie.Need-sub-result
 sub-result c = search needs
 
 returns-2 : tie.Need-returns-2
-returns-2 c = rw (eq-eqb _ _ (c .before .before .if1 .left), until-same _ _ _ (c .before .before .before .before .before .pre .0))
+returns-2 c =
+    let test = c .before .before in
+    let asked = test .before .before .before .pre in
+    rw (eq-eqb _ _ (test .if1 .left), until-same _ _ _ (asked .0))
 
 pub other-sums-spec : {M : Type 1} → statement M
 other-sums-spec = tie.close (tie.spec add-if1 returns sub-result returns-2)

@@ -1,3 +1,4 @@
+-- `index::part_of` meets its contract, by the definition of `partOf`.
 use mathlib.Core.Path.{subst}
 use Rattle.index.specs.declared.Where.{Where}
 use Rattle.index.specs.Views.{Shallow}

@@ -1,3 +1,4 @@
+-- `index::refused_index` meets its contract, by the case that was matched.
 use mathlib.Core.Path.{ap, sym}
 use Rattle.index.specs.Views.{refusalIndex}
 use borrow.Author.Needs.{needs}

@@ -1,3 +1,4 @@
+-- `index::sap_end` meets its contract, by that of `close_index`, and by the definitions of `entryEnds` and `pick`.
 use borrow.Author.Tests.{eq-eqb, ne-eqb}
 use native.Mathlib.Numerals.{add-one}
 use Rattle.basics.specs.Choose.{pick}
@@ -14,16 +15,21 @@ close-index-requires c κs = search needs
 
 returns : tie.Need-returns
 unfolding entryEnds pick
-returns c = λ leaves last work table v.
-    rw (← add-one (c .before .before .before .before .args .sums .next), eq-eqb _ _ (c .before .if1 .taken))
-    (c .close-index .ensures leaves last work table)
+returns c =
+    let test = c .before in
+    let a = test .before .before .before .args in
+    λ leaves last work table v.
+    rw (← add-one (a .sums .next), eq-eqb _ _ (test .if1 .taken)) (c .close-index .ensures leaves last work table)
 
 add-t8 : tie.Need-add-t8
 add-t8 c = search needs
 
 returns-2 : tie.Need-returns-2
 unfolding entryEnds pick
-returns-2 c = λ leaves last work table v. rw (← add-one (c .before .before .before .before .args .sums .next), ne-eqb _ _ (c .before .if1 .left))
+returns-2 c =
+    let test = c .before in
+    let a = test .before .before .before .args in
+    λ leaves last work table v. rw (← add-one (a .sums .next), ne-eqb _ _ (test .if1 .left))
 
 pub sap-end-spec : {M : Type 1} → statement M
 sap-end-spec = tie.close (tie.spec add-if1 close-index-requires returns add-t8 returns-2)

@@ -1,3 +1,5 @@
+-- `index::scale_end` meets its contract, by those of `wide_more` and `unless_shown`, by the law `first-lower`, and by the definitions of `fieldEnds` and
+-- `scaleFaults`.
 use native.Mathlib.Omega.{arith}
 use Rattle.index.proofs.Laws.{first-lower}
 use Rattle.state.specs.Sidx.{fieldEnds, scaleFaults}
@@ -29,14 +31,17 @@ returns c = λ f n. rw (c .before .enum-told .given .1, ← c .before .before .b
 
 returns-2 : tie.Need-returns-2
 unfolding fieldEnds scaleFaults
-returns-2 c = λ f n.
+returns-2 c =
+    let at-unless-shown2 = c .before in
+    let arm = at-unless-shown2 .before .before .before in
+    let at-wide-more = arm .before .before in
+    λ f n.
     rw (
-      c .before .before .before .before .p .given .1,
+      arm .p .given .1,
       first-lower _ _ 11 12 _ _ _ (omega arith),
-      ← c .before .before .before .before .before .before .wide-more .ensures,
-      ← c .before .unless-shown2 .ensures f,
-    )
-    (c .unless-shown3 .ensures f)
+      ← at-wide-more .wide-more .ensures,
+      ← at-unless-shown2 .unless-shown2 .ensures f,
+    ) (c .unless-shown3 .ensures f)
 
 pub scale-end-spec : {M : Type 1} → statement M
 scale-end-spec =

@@ -1,3 +1,4 @@
+-- `index::size_end` meets its contract, by that of `unless_shown`, and by the definition of `entryEnds`.
 use Rattle.state.specs.Sidx.{entryEnds}
 use borrow.Author.Needs.{needs}
 use Rattle.index.proofs.size_end.Statement.{statement}

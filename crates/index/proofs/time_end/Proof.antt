@@ -1,3 +1,4 @@
+-- `index::time_end` meets its contract, by those of `wide_more` and `unless_shown`, and by the definitions of `fieldEnds`, `timeFaults` and `unless`.
 use Rattle.machine.specs.Faults.{unless}
 use Rattle.state.specs.Sidx.{fieldEnds, timeFaults}
 use borrow.Author.Needs.{needs}

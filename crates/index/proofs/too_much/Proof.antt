@@ -1,3 +1,4 @@
+-- `index::too_much` meets its contract, by the law `past-time`.
 use Prim.Native.Nat.{_+_}
 use borrow.Author.Tests.{lt-ltb, le-ltb}
 use native.Mathlib.Omega.{arith}
@@ -11,26 +12,22 @@ sub-room : tie.Need-sub-room
 sub-room c = search needs
 
 returns : tie.Need-returns
-returns c = rw (lt-ltb limit (c .before .before .args .n + c .before .before .args .x .offset + c .before .before .args .x .sizes) (omega arith))
+returns c =
+    let a = c .before .before .args in
+    rw (lt-ltb limit (a .n + a .x .offset + a .x .sizes) (omega arith))
 
 returns-2 : tie.Need-returns-2
 returns-2 c =
-    rw
-    (lt-ltb limit
-    (c .before .before .before .before .before .args .n + c .before .before .before .before .before .args .x .offset + c .before .before .before .before .before .args .x .sizes)
-    (omega arith))
+    let a = c .before .before .before .before .before .args in
+    rw (lt-ltb limit (a .n + a .x .offset + a .x .sizes) (omega arith))
 
 sub-result : tie.Need-sub-result
 sub-result c = search needs
 
 returns-3 : tie.Need-returns-3
 returns-3 c =
-    rw
-    (le-ltb limit
-    (c .before .before .before .before .before .before .before .args .n + c .before .before .before .before .before .before .before .args .x .offset + c .before .before .before .before .before .before .before .args .x .sizes)
-    (omega arith))
-    (past-time (c .before .before .before .before .before .before .before .args .x .time)
-    (c .before .before .before .before .before .before .before .args .x .durations) (omega arith))
+    let a = c .before .before .before .before .before .before .before .args in
+    rw (le-ltb limit (a .n + a .x .offset + a .x .sizes) (omega arith)) (past-time (a .x .time) (a .x .durations) (omega arith))
 
 pub too-much-spec : {M : Type 1} → statement M
 too-much-spec = tie.close (tie.spec sub-room returns returns-2 sub-result returns-3)

@@ -1,3 +1,4 @@
+-- `index::too_short` meets its contract, by its test, which decides that of the definition.
 use borrow.Author.Tests.{eq-eqb, ne-eqb}
 use borrow.Author.Needs.{needs}
 use Rattle.index.proofs.too_short.Statement.{statement}

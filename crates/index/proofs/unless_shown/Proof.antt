@@ -1,3 +1,4 @@
+-- `index::unless_shown` meets its contract, by the definitions of `shows`, `unless` and `lowest`.
 use Rattle.machine.specs.Faults.{shows, unless, lowest}
 use Rattle.index.proofs.unless_shown.Statement.{statement}
 use Rattle.index.proofs.unless_shown.Tie as tie

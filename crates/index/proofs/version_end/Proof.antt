@@ -1,3 +1,5 @@
+-- `index::version_end` meets its contract, by those of `unless_shown` and `too_short`, by the law `second-lower`, and by the definitions of `fieldEnds`
+-- and `sidxVersionFaults`.
 use native.Mathlib.Omega.{arith}
 use Rattle.index.proofs.Laws.{second-lower}
 use Rattle.state.specs.Sidx.{fieldEnds, sidxVersionFaults}

@@ -1,3 +1,4 @@
+-- `index::wide_more` meets its contract, by the definition of `wideMore`.
 use Rattle.state.specs.Sidx.{wideMore}
 use Rattle.index.proofs.wide_more.Statement.{statement}
 use Rattle.index.proofs.wide_more.Tie as tie

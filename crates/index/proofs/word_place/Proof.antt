@@ -1,3 +1,4 @@
+-- `index::word_place` meets its contract, by the definition of `wordPlace`.
 use Rattle.state.specs.Sidx.{wordPlace}
 use borrow.Author.Needs.{needs}
 use Rattle.index.proofs.word_place.Statement.{statement}
