@@ -1,4 +1,4 @@
--- `lookup::covers_at` meets its contract.
+-- `lookup::covers_at` meets its contract, by the laws `before-start`, `past-end` and `not-past`, and by the definition of `recordAt`.
 use mathlib.Core.Path.{sym}
 use native.Mathlib.Omega.{arith}
 use Rattle.lookup.specs.Lookup.{recordAt}
@@ -22,7 +22,8 @@ shared-slice-read-start c = search needs
 returns : tie.Need-returns
 unfolding recordAt
 returns c =
-    sym (before-start (recordAt (c .before .before .args .table .now) (c .before .before .args .i)) (c .before .before .args .t) (omega arith))
+    let a = c .before .before .args in
+    sym (before-start (recordAt (a .table .now) (a .i)) (a .t) (omega arith))
 
 mul-duration : tie.Need-mul-duration
 mul-duration c = search needs
@@ -39,20 +40,14 @@ shared-slice-read-duration c = search needs
 returns-2 : tie.Need-returns-2
 unfolding recordAt
 returns-2 c =
-    sym
-    (not-past
-    (recordAt (c .before .before .before .before .args .table .now) (c .before .before .before .before .args .i))
-    (c .before .before .before .before .args .t)
-    (omega arith) (omega arith))
+    let a = c .before .before .before .before .args in
+    sym (not-past (recordAt (a .table .now) (a .i)) (a .t) (omega arith) (omega arith))
 
 returns-3 : tie.Need-returns-3
 unfolding recordAt
 returns-3 c =
-    sym
-    (past-end
-    (recordAt (c .before .before .before .before .args .table .now) (c .before .before .before .before .args .i))
-    (c .before .before .before .before .args .t)
-    (omega arith) (omega arith))
+    let a = c .before .before .before .before .args in
+    sym (past-end (recordAt (a .table .now) (a .i)) (a .t) (omega arith) (omega arith))
 
 pub covers-at-spec : {M : Type 1} → statement M
 covers-at-spec =

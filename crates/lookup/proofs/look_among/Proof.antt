@@ -1,4 +1,4 @@
--- `lookup::look_among` meets its contract.
+-- `lookup::look_among` meets its contract, by those of `refused` and `look_in`, and by the laws `pick-yes`, `pick-no`, `too-short` and `long-enough`.
 use Prim.Native.Nat.{_*_}
 use mathlib.Core.Path.{sym, _∙_}
 use native.Mathlib.Omega.{arith}
@@ -16,21 +16,18 @@ refused-requires c κs = search needs
 
 returns : tie.Need-returns
 returns c =
+    let a = c .before .before .before .args in
     c .refused .ensures
-    ∙ sym (pick-yes _ _ _ (too-short (length (c .before .before .before .args .table .now)) (c .before .before .before .args .leaves) (omega arith)))
+    ∙ sym (pick-yes _ _ _ (too-short (length (a .table .now)) (a .leaves) (omega arith)))
 
 look-in-requires : tie.Need-look-in-requires
 look-in-requires c κs = search needs
 
 returns-2 : tie.Need-returns-2
 returns-2 c =
+    let a = c .before .before .before .args in
     c .look-in .ensures
-    ∙ sym
-    (pick-no _ _ _
-    (le-ltb
-    (length (c .before .before .before .args .table .now))
-    (recordNumbers * c .before .before .before .args .leaves)
-    (long-enough (length (c .before .before .before .args .table .now)) (c .before .before .before .args .leaves) (omega arith))))
+    ∙ sym (pick-no _ _ _ (le-ltb (length (a .table .now)) (recordNumbers * a .leaves) (long-enough (length (a .table .now)) (a .leaves) (omega arith))))
 
 pub look-among-spec : {M : Type 1} → statement M
 look-among-spec = tie.close (tie.spec refused-requires returns look-in-requires returns-2)

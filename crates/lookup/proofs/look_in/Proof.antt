@@ -30,16 +30,13 @@ record-at-requires c κs = omega arith
 
 returns : tie.Need-returns Inv-loop μ-loop
 returns c =
-    ap (λ (q : Record). answer.Found (c .before .before .before .before .loop .i + 1) q) (c .record-at .ensures)
-    ∙ sym
-    (turn-found
-    (c .before .before .before .before .before .before .args .leaves)
-    (c .before .before .before .before .before .before .args .table .now)
-    (c .before .before .before .before .before .before .args .t)
-    (c .before .before .before .before .loop .i)
-    (omega arith)
-    (sym (c .before .before .covers-at .ensures) ∙ c .before .if1 .taken))
-    ∙ c .before .before .before .before .loop .inv .1
+    let test = c .before in
+    let at-covers-at = test .before in
+    let around = at-covers-at .before .before in
+    let a = around .before .before .args in
+    ap (λ (q : Record). answer.Found (around .loop .i + 1) q) (c .record-at .ensures)
+    ∙ sym (turn-found (a .leaves) (a .table .now) (a .t) (around .loop .i) (omega arith) (sym (at-covers-at .covers-at .ensures) ∙ test .if1 .taken))
+    ∙ around .loop .inv .1
 
 add-i : tie.Need-add-i Inv-loop μ-loop
 add-i c = omega arith
@@ -48,32 +45,27 @@ loop-less : tie.Need-loop-less Inv-loop μ-loop
 loop-less c = omega arith
 
 loop-again : tie.Need-loop-again Inv-loop μ-loop
-loop-again c = (
-  omega arith,
-  sym
-      (ap (λ (o : Option ℕ). found (c .before .before .before .before .before .args .leaves) (c .before .before .before .before .before .args .table .now) (c .before .before .before .before .before .args .t) o)
-      (turn-on
-      (c .before .before .before .before .before .args .leaves)
-      (c .before .before .before .before .before .args .table .now)
-      (c .before .before .before .before .before .args .t)
-      (c .before .before .before .loop .i) (omega arith)
-      (sym (c .before .covers-at .ensures) ∙ c .if1 .left)))
-      ∙ c .before .before .before .loop .inv .1,
-)
+loop-again c =
+    let at-covers-at = c .before in
+    let around = at-covers-at .before .before in
+    let a = around .before .before .args in (
+      omega arith,
+      sym (ap (λ (o : Option ℕ). found (a .leaves) (a .table .now) (a .t) o)
+          (turn-on (a .leaves) (a .table .now) (a .t) (around .loop .i) (omega arith)
+          (sym (at-covers-at .covers-at .ensures) ∙ c .if1 .left)))
+          ∙ around .loop .inv .1,
+    )
 
 outside-list-requires : tie.Need-outside-list-requires Inv-loop μ-loop
 outside-list-requires c κs = omega arith
 
 returns-2 : tie.Need-returns-2 Inv-loop μ-loop
 returns-2 c =
+    let around = c .before .before in
+    let a = around .before .before .args in
     c .outside-list .ensures
-    ∙ sym
-    (last-turn
-    (c .before .before .before .before .args .leaves)
-    (c .before .before .before .before .args .table .now)
-    (c .before .before .before .before .args .t)
-    (c .before .before .loop .i) (omega arith))
-    ∙ c .before .before .loop .inv .1
+    ∙ sym (last-turn (a .leaves) (a .table .now) (a .t) (around .loop .i) (omega arith))
+    ∙ around .loop .inv .1
 
 pub look-in-spec : {M : Type 1} → statement M
 look-in-spec =

@@ -1,4 +1,5 @@
--- `lookup::lookup` meets its contract.
+-- `lookup::lookup` meets its contract, by those of `in_range`, `look_up_state` and `refused`, by the laws `pick-yes` and `pick-no`, and by the
+-- definition of `lookupOf`.
 use mathlib.Core.Path.{sym, _∙_}
 use Rattle.basics.proofs.Picks.{pick-yes, pick-no}
 use Rattle.state.specs.Ranges.{inRange}
@@ -16,8 +17,11 @@ look-up-state-requires c κs = search needs
 returns : tie.Need-returns
 unfolding lookupOf
 returns c =
+    let test = c .before in
+    let at-in-range = test .before in
+    let a = at-in-range .before .before .args in
     c .look-up-state .ensures
-    ∙ sym (pick-yes (inRange (c .before .before .before .before .args .s)) _ _ (sym (c .before .before .in-range .ensures) ∙ c .before .if1 .taken))
+    ∙ sym (pick-yes (inRange (a .s)) _ _ (sym (at-in-range .in-range .ensures) ∙ test .if1 .taken))
 
 refused-requires : tie.Need-refused-requires
 refused-requires c κs = search needs
@@ -25,8 +29,11 @@ refused-requires c κs = search needs
 returns-2 : tie.Need-returns-2
 unfolding lookupOf
 returns-2 c =
+    let test = c .before in
+    let at-in-range = test .before in
+    let a = at-in-range .before .before .args in
     c .refused .ensures
-    ∙ sym (pick-no (inRange (c .before .before .before .before .args .s)) _ _ (sym (c .before .before .in-range .ensures) ∙ c .before .if1 .left))
+    ∙ sym (pick-no (inRange (a .s)) _ _ (sym (at-in-range .in-range .ensures) ∙ test .if1 .left))
 
 pub lookup-spec : {M : Type 1} → statement M
 lookup-spec =

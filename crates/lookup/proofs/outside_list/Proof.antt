@@ -1,4 +1,4 @@
--- `lookup::outside_list` meets its contract.
+-- `lookup::outside_list` meets its contract, by that of `refused`, and by the laws `outside-none`, `outside-before` and `outside-past`.
 use mathlib.Core.Path.{sym, _∙_}
 use Rattle.lookup.proofs.Passing.{outside-none, outside-before, outside-past}
 use borrow.Author.Needs.{needs}
@@ -10,12 +10,10 @@ refused-requires c κs = search needs
 
 returns : tie.Need-returns
 returns c =
+    let test = c .before in
+    let a = test .before .before .args in
     c .refused .ensures
-    ∙ sym
-    (outside-none
-    (c .before .before .before .args .leaves)
-    (c .before .before .before .args .table .now)
-    (c .before .before .before .args .t) (c .before .if1 .taken))
+    ∙ sym (outside-none (a .leaves) (a .table .now) (a .t) (test .if1 .taken))
 
 shared-slice-read-start : tie.Need-shared-slice-read-start
 shared-slice-read-start c = search needs
@@ -25,26 +23,22 @@ refused-requires-2 c κs = search needs
 
 returns-2 : tie.Need-returns-2
 returns-2 c =
+    let test2 = c .before in
+    let test1 = test2 .before .before in
+    let a = test1 .before .before .args in
     c .refused2 .ensures
-    ∙ sym
-    (outside-before
-    (c .before .before .before .before .before .args .leaves)
-    (c .before .before .before .before .before .args .table .now)
-    (c .before .before .before .before .before .args .t)
-    (c .before .before .before .if1 .left) (c .before .if2 .taken))
+    ∙ sym (outside-before (a .leaves) (a .table .now) (a .t) (test1 .if1 .left) (test2 .if2 .taken))
 
 refused-requires-3 : tie.Need-refused-requires-3
 refused-requires-3 c κs = search needs
 
 returns-3 : tie.Need-returns-3
 returns-3 c =
+    let test2 = c .before in
+    let test1 = test2 .before .before in
+    let a = test1 .before .before .args in
     c .refused3 .ensures
-    ∙ sym
-    (outside-past
-    (c .before .before .before .before .before .args .leaves)
-    (c .before .before .before .before .before .args .table .now)
-    (c .before .before .before .before .before .args .t)
-    (c .before .before .before .if1 .left) (c .before .if2 .left))
+    ∙ sym (outside-past (a .leaves) (a .table .now) (a .t) (test1 .if1 .left) (test2 .if2 .left))
 
 pub outside-list-spec : {M : Type 1} → statement M
 outside-list-spec =

@@ -1,4 +1,4 @@
--- `lookup::record_at` meets its contract.
+-- `lookup::record_at` meets its contract, by the law `record-read`.
 use Rattle.lookup.proofs.Passing.{record-read}
 use borrow.Author.Needs.{needs}
 use Rattle.lookup.proofs.record_at.Statement.{statement}
@@ -60,7 +60,8 @@ shared-slice-read-t26 c = search needs
 
 returns : tie.Need-returns
 returns c =
-    record-read (c .before .before .before .before .before .before .args .table .now) (c .before .before .before .before .before .before .args .i)
+    let a = c .before .before .before .before .before .before .args in
+    record-read (a .table .now) (a .i)
 
 pub record-at-spec : {M : Type 1} → statement M
 record-at-spec =
