@@ -1,3 +1,5 @@
+-- `feed::advance` meets its contract, by those of `passing_now`, `spell_on`, `state_byte` and `pass`, and by the laws `spelled-there`,
+-- `number-and-byte`, `passed-most`, `passed-fits` and `passed-taken`.
 use native.Mathlib.Omega.{arith}
 use Rattle.feed.proofs.Laws.{spelled-there, number-and-byte, passed-most, passed-fits, passed-taken}
 use borrow.Author.Needs.{needs}
@@ -14,13 +16,22 @@ spell-on-requires : tie.Need-spell-on-requires
 spell-on-requires c κs = search needs
 
 shared-slice-read-state-byte : tie.Need-shared-slice-read-state-byte
-shared-slice-read-state-byte c = spelled-there (c .before .before .before .before .before .before .before .before .before .before .args .piece .now) (c .before .before .before .before .before .before .before .before .before .before .args .s) (c .before .before .before .before .before .before .before .before .before .before .args .i) (c .before .before .before .before .before .before .before .before .before .before .args .work .now) _ _ _ (c .before .before .before .before .before .before .before .before .before .before .pre .2) (c .before .before .before .spell-on .ensures .0) .1
+shared-slice-read-state-byte c =
+    let at-spell-on = c .before .before .before in
+    let start = at-spell-on .before .before .before .before .before .before .before in
+    let a = start .args in
+    spelled-there (a .piece .now) (a .s) (a .i) (a .work .now) _ _ _ (start .pre .2) (at-spell-on .spell-on .ensures .0) .1
 
 state-byte-requires : tie.Need-state-byte-requires
 state-byte-requires c κs = search needs
 
 add-t23 : tie.Need-add-t23
-add-t23 c = omega (arith, spelled-there (c .before .before .before .before .before .before .before .before .before .before .before .before .before .before .before .before .before .args .piece .now) (c .before .before .before .before .before .before .before .before .before .before .before .before .before .before .before .before .before .args .s) (c .before .before .before .before .before .before .before .before .before .before .before .before .before .before .before .before .before .args .i) (c .before .before .before .before .before .before .before .before .before .before .before .before .before .before .before .before .before .args .work .now) _ _ _ (c .before .before .before .before .before .before .before .before .before .before .before .before .before .before .before .before .before .pre .2) (c .before .before .before .before .before .before .before .before .before .before .spell-on .ensures .0) .1)
+add-t23 c =
+    let stepped = c .before .before .before .before in
+    let at-spell-on = stepped .before .before .before .before .before .before in
+    let start = at-spell-on .before .before .before .before .before .before .before in
+    let a = start .args in
+    omega (arith, spelled-there (a .piece .now) (a .s) (a .i) (a .work .now) _ _ _ (start .pre .2) (at-spell-on .spell-on .ensures .0) .1)
 
 same-length : tie.Need-same-length
 same-length c = search needs
@@ -29,16 +40,36 @@ same-length-2 : tie.Need-same-length-2
 same-length-2 c = search needs
 
 returns : tie.Need-returns
-returns c = number-and-byte (c .before .before .before .before .before .before .before .before .before .before .before .before .before .before .before .before .before .args .piece .now) (c .before .before .before .before .before .before .before .before .before .before .before .before .before .before .before .before .before .args .s) (c .before .before .before .before .before .before .before .before .before .before .before .before .before .before .before .before .before .args .i) (c .before .before .before .before .before .before .before .before .before .before .before .before .before .before .before .before .before .args .work .now) _ _ _ (c .before .before .before .before .before .before .before .before .before .before .before .before .before .before .before .before .before .pre .2) (c .before .before .before .before .before .before .before .before .before .before .spell-on .ensures .0) (c .before .before .before .before .before .before .before .before .before .before .before .before .before .before .before .before .before .args .table .now) _ _ _ (c .before .before .before .before .before .before .before .before .before .before .before .before .before .before .before .before .before .pre .1) (c .before .before .before .before .state-byte .ensures .1) (c .before .before .before .before .state-byte .ensures .0)
+returns c =
+    let stepped = c .before .before .before .before in
+    let at-spell-on = stepped .before .before .before .before .before .before in
+    let start = at-spell-on .before .before .before .before .before .before .before in
+    let a = start .args in
+    number-and-byte (a .piece .now) (a .s) (a .i) (a .work .now) _ _ _ (start .pre .2) (at-spell-on .spell-on .ensures .0) (a .table .now) _ _ _ (start .pre .1)
+    (stepped .state-byte .ensures .1) (stepped .state-byte .ensures .0)
 
 pass-requires : tie.Need-pass-requires
-pass-requires c κs = passed-fits (c .before .before .before .before .before .args .piece .now) (c .before .before .before .before .before .args .s) (c .before .before .before .before .before .args .i) _ (c .before .before .before .before .before .pre .1) (c .before .passing-now .ensures)
+pass-requires c κs =
+    let at-passing-now = c .before in
+    let start = at-passing-now .before .before .before .before in
+    let a = start .args in
+    passed-fits (a .piece .now) (a .s) (a .i) _ (start .pre .1) (at-passing-now .passing-now .ensures)
 
 add-t12 : tie.Need-add-t12
-add-t12 c = omega (arith, c .before .before .before .before .before .before .pre .2, passed-most (c .before .before .before .before .before .before .args .piece .now) (c .before .before .before .before .before .before .args .s) (c .before .before .before .before .before .before .args .i) _ (c .before .before .passing-now .ensures))
+add-t12 c =
+    let at-passing-now = c .before .before in
+    let start = at-passing-now .before .before .before .before in
+    let a = start .args in
+    omega (arith, start .pre .2, passed-most (a .piece .now) (a .s) (a .i) _ (at-passing-now .passing-now .ensures))
 
 returns-2 : tie.Need-returns-2
-returns-2 c = passed-taken (c .before .before .before .before .before .before .args .piece .now) (c .before .before .before .before .before .before .args .s) (c .before .before .before .before .before .before .args .i) _ _ (c .before .before .passing-now .result) (c .pass .result) (c .before .before .before .before .before .before .pre .2) (c .before .before .before .before .before .before .pre .1) (omega (arith, c .before .if1 .left)) (c .before .before .passing-now .ensures) (c .pass .ensures)
+returns-2 c =
+    let test = c .before in
+    let at-passing-now = test .before in
+    let start = at-passing-now .before .before .before .before in
+    let a = start .args in
+    passed-taken (a .piece .now) (a .s) (a .i) _ _ (at-passing-now .passing-now .result) (c .pass .result) (start .pre .2) (start .pre .1) (omega (arith, test .if1 .left))
+    (at-passing-now .passing-now .ensures) (c .pass .ensures)
 
 pub advance-spec : {M : Type 1} → statement M
 advance-spec =

@@ -1,4 +1,4 @@
-use Prim.Native.Nat.{_-_}
+-- `feed::answer_for` meets its contract, by the definition of `answered`.
 use mathlib.Core.Path.{ap, sym}
 use Rattle.step.specs.Answers.{answered}
 use borrow.Author.Needs.{needs}

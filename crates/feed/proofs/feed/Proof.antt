@@ -1,6 +1,5 @@
 -- `feed::feed` meets its contract: each way out is one of the checks of `feedOf`, by the laws of a feed; the part holds bytes by what is known
 -- of a lent slice.
-use Prim.Native.Nat.{_-_}
 use mathlib.Core.Path.{sym, _∙_}
 use Rattle.basics.proofs.Bytes.{each-byte-all}
 use Rattle.feed.proofs.Laws.{feeds-short, feeds-outside, feeds-inside}
@@ -17,8 +16,10 @@ returns : tie.Need-returns
 returns c =
     let area = c .before in
     let known = area .before .before .before in
-    let a = known .before .args in
-    (feeds-short (a .s) (a .piece .now) (a .work .now) (a .table .now) _ _ (area .if1 .taken) (c .turned-away .ensures), each-byte-all (a .piece .now) (λ i. known .shared-slice-known .given i .fits))
+    let a = known .before .args in (
+      feeds-short (a .s) (a .piece .now) (a .work .now) (a .table .now) _ _ (area .if1 .taken) (c .turned-away .ensures),
+      each-byte-all (a .piece .now) (λ i. known .shared-slice-known .given i .fits),
+    )
 
 in-range-requires : tie.Need-in-range-requires
 in-range-requires c κs = search needs
@@ -47,8 +48,8 @@ returns-2 c =
     let area = range .before .before in
     let known = area .before .before .before in
     let a = known .before .args in (
-      feeds-inside (a .s) (a .piece .now) (a .work .now) (a .table .now) _ _ _ _ (area .if1 .left) (sym (range .before .in-range .ensures) ∙ range .if2 .taken) (c .answer-for .ensures)
-          (read .feed-bytes .ensures),
+      feeds-inside (a .s) (a .piece .now) (a .work .now) (a .table .now) _ _ _ _ (area .if1 .left) (sym (range .before .in-range .ensures) ∙ range .if2 .taken)
+          (c .answer-for .ensures) (read .feed-bytes .ensures),
       each-byte-all (a .piece .now) (λ i. known .shared-slice-known .given i .fits),
     )
 
@@ -62,7 +63,8 @@ returns-3 c =
     let area = range .before .before in
     let known = area .before .before .before in
     let a = known .before .args in (
-      feeds-outside (a .s) (a .piece .now) (a .work .now) (a .table .now) _ _ (area .if1 .left) (sym (range .before .in-range .ensures) ∙ range .if2 .left) (c .turned-away2 .ensures),
+      feeds-outside (a .s) (a .piece .now) (a .work .now) (a .table .now) _ _ (area .if1 .left) (sym (range .before .in-range .ensures) ∙ range .if2 .left)
+          (c .turned-away2 .ensures),
       each-byte-all (a .piece .now) (λ i. known .shared-slice-known .given i .fits),
     )
 

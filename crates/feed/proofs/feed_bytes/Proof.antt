@@ -1,3 +1,5 @@
+-- `feed::feed_bytes` meets its contract, by that of `advance`, and by the law `fed-end`. The loop's invariant: what the rest of the piece comes
+-- to from here is what the whole piece comes to from the start.
 use Prim.Native.Nat.{_-_, _≤_}
 use mathlib.Core.Path.{_≡_, refl, sym, _∙_}
 use native.Mathlib.Omega.{arith}
@@ -9,7 +11,9 @@ use Rattle.feed.proofs.feed_bytes.Statement.{statement}
 use Rattle.feed.proofs.feed_bytes.Tie as tie
 
 abbrev Inv-loop : tie.InvT-loop
-Inv-loop piece work₀ table₀ r₀ i₀ work table r i = (i ≤ length piece) × (length work ≡ length work₀) × (length table ≡ length table₀) × InRange r × (feedState r (drop i piece) work table ≡ feedState r₀ piece work₀ table₀)
+Inv-loop piece work₀ table₀ r₀ i₀ work table r i =
+    (i ≤ length piece) × (length work ≡ length work₀) × (length table ≡ length table₀) × InRange r
+    × (feedState r (drop i piece) work table ≡ feedState r₀ piece work₀ table₀)
 
 abbrev μ-loop : tie.MeasureT-loop
 μ-loop piece work₀ table₀ r₀ i₀ work table r i = length piece - i
@@ -18,13 +22,28 @@ loop-holds : tie.Need-loop-holds Inv-loop μ-loop
 loop-holds c = (omega arith, refl, refl, c .before .before .before .pre .1, refl)
 
 advance-requires : tie.Need-advance-requires Inv-loop μ-loop
-advance-requires c κs = (omega (arith, c .before .before .before .loop .inv .1, c .before .before .before .before .before .before .before .pre .0), c .before .before .before .loop .inv .3, c .before .before .loop-test .taken)
+advance-requires c κs =
+    let tested = c .before .before in
+    let around = tested .before in
+    let asked = around .before .before .before .before .pre in
+    (omega (arith, around .loop .inv .1, asked .0), around .loop .inv .3, tested .loop-test .taken)
 
 loop-less : tie.Need-loop-less Inv-loop μ-loop
-loop-less c = omega (arith, c .before .before .before .before .before .before .before .loop-test .taken, c .before .before .before .before .advance .ensures .later, c .before .before .before .before .advance .ensures .within)
+loop-less c =
+    let at-advance = c .before .before .before .before in
+    let tested = at-advance .before .before .before in
+    omega (arith, tested .loop-test .taken, at-advance .advance .ensures .later, at-advance .advance .ensures .within)
 
 loop-again : tie.Need-loop-again Inv-loop μ-loop
-loop-again c = (c .before .before .before .before .advance .ensures .within, c .before .before .before .before .advance .kept .1 .1 .1 .0 ∙ c .before .before .before .before .before .before .before .before .loop .inv .1, c .before .before .before .before .advance .kept .1 .1 .1 .1 .0 ∙ c .before .before .before .before .before .before .before .before .loop .inv .2, c .before .before .before .before .advance .ensures .inside, c .before .before .before .before .advance .ensures .same ∙ c .before .before .before .before .before .before .before .before .loop .inv .4)
+loop-again c =
+    let at-advance = c .before .before .before .before in
+    let around = at-advance .before .before .before .before in (
+      at-advance .advance .ensures .within,
+      at-advance .advance .kept .1 .1 .1 .0 ∙ around .loop .inv .1,
+      at-advance .advance .kept .1 .1 .1 .1 .0 ∙ around .loop .inv .2,
+      at-advance .advance .ensures .inside,
+      at-advance .advance .ensures .same ∙ around .loop .inv .4,
+    )
 
 same-length : tie.Need-same-length Inv-loop μ-loop
 same-length c = c .before .loop .inv .1
