@@ -1,4 +1,4 @@
--- `range::at_most` meets its contract.
+-- `range::at_most` meets its contract, by the laws `first-fails` and `one-holds`.
 use mathlib.Core.List.{[]}
 use native.Mathlib.Omega.{arith}
 use Rattle.range.proofs.Joined.{first-fails, one-holds}

@@ -1,4 +1,4 @@
--- `range::counts_fit` meets its contract.
+-- `range::counts_fit` meets its contract, by those of `at_most` and `both`, and by the law `joined`.
 use Rattle.range.proofs.Joined.{joined}
 use borrow.Author.Needs.{needs}
 use Rattle.range.proofs.counts_fit.Statement.{statement}

@@ -1,4 +1,4 @@
--- `range::draft_fits` meets its contract.
+-- `range::draft_fits` meets its contract, by those of `less`, `at_most` and `both`, and by the law `joined`.
 use Rattle.range.proofs.Joined.{joined}
 use borrow.Author.Needs.{needs}
 use Rattle.range.proofs.draft_fits.Statement.{statement}
@@ -21,10 +21,11 @@ both-requires-2 c κs = search needs
 
 returns : tie.Need-returns
 returns c =
-    joined _ _
-    (c .before .before .before .before .less .ensures)
-    (joined _ _ (c .before .before .before .at-most .ensures) (c .before .before .less2 .ensures) (c .before .both .ensures))
-    (c .both2 .ensures)
+    let both1 = c .before in
+    let compared2 = both1 .before in
+    let bound1 = compared2 .before in
+    let compared = bound1 .before in
+    joined _ _ (compared .less .ensures) (joined _ _ (bound1 .at-most .ensures) (compared2 .less2 .ensures) (both1 .both .ensures)) (c .both2 .ensures)
 
 pub draft-fits-spec : {M : Type 1} → statement M
 draft-fits-spec =

@@ -1,4 +1,4 @@
--- `range::durations_summed` meets its contract.
+-- `range::durations_summed` meets its contract, by the definition of `durationsRead`.
 use mathlib.Core.Path.{sym, ap, _∙_}
 use native.Mathlib.Numerals.{add-one}
 use Rattle.state.specs.Ranges.{durationsRead}

@@ -1,4 +1,4 @@
--- `range::four_fit` meets its contract.
+-- `range::four_fit` meets its contract, by those of `at_most`, `both` and `level_fits`, by the law `joined`, and by the definition of `levelsBounds`.
 use Rattle.state.specs.Ranges.{levelsBounds}
 use Rattle.range.proofs.Joined.{joined}
 use borrow.Author.Needs.{needs}
@@ -47,28 +47,23 @@ both-requires-6 c κs = search needs
 returns : tie.Need-returns
 unfolding levelsBounds
 returns c =
-    let inner =
-    joined _ _
-    (c .before .before .before .before .before .before .before .before .before .before .before .before .at-most .ensures)
-    (c .before .before .before .before .before .before .before .before .before .before .before .at-most2 .ensures)
-    (c .before .before .before .before .before .before .before .before .before .before .both .ensures) in
-    let untils =
-    joined _ _
-    (c .before .before .before .before .before .before .before .before .before .at-most3 .ensures)
-    inner
-    (c .before .before .before .before .before .before .before .before .both2 .ensures) in
-    let lower =
-    joined _ _
-    (c .before .before .before .before .before .before .before .level-fits .ensures)
-    (joined _ _
-    (c .before .before .before .before .before .before .level-fits2 .ensures)
-    untils
-    (c .before .before .before .before .before .both3 .ensures))
-    (c .before .before .before .before .both4 .ensures) in
-    joined _ _
-    (c .before .before .before .level-fits3 .ensures)
-    (joined _ _ (c .before .before .level-fits4 .ensures) lower (c .before .both5 .ensures))
-    (c .both6 .ensures)
+    let both5 = c .before in
+    let level4 = both5 .before in
+    let level3 = level4 .before in
+    let both4 = level3 .before in
+    let both3 = both4 .before in
+    let level2 = both3 .before in
+    let level1 = level2 .before in
+    let both2 = level1 .before in
+    let bound3 = both2 .before in
+    let both1 = bound3 .before in
+    let bound2 = both1 .before in
+    let bound1 = bound2 .before in
+    let inner = joined _ _ (bound1 .at-most .ensures) (bound2 .at-most2 .ensures) (both1 .both .ensures) in
+    let untils = joined _ _ (bound3 .at-most3 .ensures) inner (both2 .both2 .ensures) in
+    let upper = joined _ _ (level2 .level-fits2 .ensures) untils (both3 .both3 .ensures) in
+    let lower = joined _ _ (level1 .level-fits .ensures) upper (both4 .both4 .ensures) in
+    joined _ _ (level3 .level-fits3 .ensures) (joined _ _ (level4 .level-fits4 .ensures) lower (both5 .both5 .ensures)) (c .both6 .ensures)
 
 pub four-fit-spec : {M : Type 1} → statement M
 four-fit-spec =

@@ -1,4 +1,4 @@
--- `range::gap_fits` meets its contract.
+-- `range::gap_fits` meets its contract, by that of `head_fits`, by the law `all-of-none`, and by the definition of `gapBounds`.
 use mathlib.Core.Path.{sym, ap, _∙_}
 use Rattle.state.specs.Ranges.{within, gapBounds}
 use Rattle.range.proofs.Joined.{all-of-none}

@@ -1,4 +1,4 @@
--- `range::gap_stage_fits` meets its contract.
+-- `range::gap_stage_fits` meets its contract, by those of `at_most`, `gap_fits`, `both`, `top_fits` and `level_fits`, and by the law `joined`.
 use Rattle.range.proofs.Joined.{joined}
 use borrow.Author.Needs.{needs}
 use Rattle.range.proofs.gap_stage_fits.Statement.{statement}
@@ -27,15 +27,14 @@ both-requires-3 c κs = search needs
 
 returns : tie.Need-returns
 returns c =
-    joined _ _
-    (c .before .before .before .top-fits .ensures)
-    (joined _ _ (c .before .before .level-fits .ensures)
-    (joined _ _
-    (c .before .before .before .before .before .before .at-most .ensures)
-    (c .before .before .before .before .before .gap-fits .ensures)
-    (c .before .before .before .before .both .ensures))
-    (c .before .both2 .ensures))
-    (c .both3 .ensures)
+    let both2 = c .before in
+    let level1 = both2 .before in
+    let at-top-fits = level1 .before in
+    let both1 = at-top-fits .before in
+    let at-gap-fits = both1 .before in
+    let bound1 = at-gap-fits .before in
+    let boxes = joined _ _ (bound1 .at-most .ensures) (at-gap-fits .gap-fits .ensures) (both1 .both .ensures) in
+    joined _ _ (at-top-fits .top-fits .ensures) (joined _ _ (level1 .level-fits .ensures) boxes (both2 .both2 .ensures)) (c .both3 .ensures)
 
 pub gap-stage-fits-spec : {M : Type 1} → statement M
 gap-stage-fits-spec =

@@ -1,4 +1,4 @@
--- `range::head_fits` meets its contract.
+-- `range::head_fits` meets its contract, by that of `head_number_fits`, by the law `all-of-none`, and by the definition of `headBounds`.
 use mathlib.Core.Path.{sym, ap, _∙_}
 use Rattle.state.specs.Ranges.{within, headBounds}
 use Rattle.range.proofs.Joined.{all-of-none}

@@ -1,4 +1,4 @@
--- `range::head_number_fits` meets its contract.
+-- `range::head_number_fits` meets its contract, by those of `at_most`, `spelling_fits` and `both`, and by the law `joined`.
 use Rattle.range.proofs.Joined.{joined}
 use borrow.Author.Needs.{needs}
 use Rattle.range.proofs.head_number_fits.Statement.{statement}

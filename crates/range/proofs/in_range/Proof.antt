@@ -1,4 +1,5 @@
--- `range::in_range` meets its contract.
+-- `range::in_range` meets its contract, by those of `counts_fit`, `stage_fits`, `both`, `top_fits` and `refused_fits`, by the law `joined`, and by
+-- the definition of `bounds`.
 use mathlib.Core.Path.{sym, ap, _∙_}
 use Rattle.state.specs.Ranges.{bounds, inRange}
 use Rattle.range.proofs.Joined.{joined}
@@ -52,14 +53,20 @@ both-requires-3 c κs = search needs
 returns : tie.Need-returns
 unfolding bounds
 returns c =
-    joined _ _ (c .before .before .counts-fit .ensures) (c .before .stage-fits .ensures) (c .both .ensures)
-    ∙ sym (ap (λ (q : State). inRange q) (c .before .before .before .before .s .given .1))
+    let at-stage-fits = c .before in
+    let at-counts-fit = at-stage-fits .before in
+    let arm = at-counts-fit .before .before in
+    joined _ _ (at-counts-fit .counts-fit .ensures) (at-stage-fits .stage-fits .ensures) (c .both .ensures)
+    ∙ sym (ap (λ (q : State). inRange q) (arm .s .given .1))
 
 returns-2 : tie.Need-returns-2
 unfolding bounds
 returns-2 c =
-    joined _ _ (c .before .before .counts-fit2 .ensures) (c .before .top-fits .ensures) (c .both2 .ensures)
-    ∙ sym (ap (λ (q : State). inRange q) (c .before .before .before .before .s2 .given .1))
+    let at-top-fits = c .before in
+    let at-counts-fit2 = at-top-fits .before in
+    let arm = at-counts-fit2 .before .before in
+    joined _ _ (at-counts-fit2 .counts-fit2 .ensures) (at-top-fits .top-fits .ensures) (c .both2 .ensures)
+    ∙ sym (ap (λ (q : State). inRange q) (arm .s2 .given .1))
 
 returns-3 : tie.Need-returns-3
 unfolding bounds
@@ -68,8 +75,11 @@ returns-3 c = c .refused-fits .ensures ∙ sym (ap (λ (q : State). inRange q) (
 returns-4 : tie.Need-returns-4
 unfolding bounds
 returns-4 c =
-    joined _ _ (c .before .before .counts-fit3 .ensures) (c .before .top-fits2 .ensures) (c .both3 .ensures)
-    ∙ sym (ap (λ (q : State). inRange q) (c .before .before .before .before .s4 .given .1))
+    let at-top-fits2 = c .before in
+    let at-counts-fit3 = at-top-fits2 .before in
+    let arm = at-counts-fit3 .before .before in
+    joined _ _ (at-counts-fit3 .counts-fit3 .ensures) (at-top-fits2 .top-fits2 .ensures) (c .both3 .ensures)
+    ∙ sym (ap (λ (q : State). inRange q) (arm .s4 .given .1))
 
 pub in-range-spec : {M : Type 1} → statement M
 in-range-spec =

@@ -1,4 +1,4 @@
--- `range::index_most` meets its contract.
+-- `range::index_most` meets its contract, by that of `wide_most`, and by the definition of `indexMost`.
 use mathlib.Core.Path.{sym, ap, _∙_}
 use Rattle.state.specs.Ranges.{indexMost}
 use Rattle.state.specs.declared.IndexPart.{IndexPart}

@@ -1,4 +1,5 @@
--- `range::inner_fits` meets its contract.
+-- `range::inner_fits` meets its contract, by those of `head_fits`, `depth`, `less`, `sidx_fits` and `both`, by the law `joined`, and by the
+-- definition of `innerBounds`.
 use Prim.Native.Nat.{ℕ}
 use mathlib.Core.Path.{sym, ap, _∙_}
 use mathlib.Core.List.{[], _∷_}
@@ -33,18 +34,21 @@ both-requires c κs = search needs
 returns : tie.Need-returns
 unfolding innerBounds
 returns c =
+    let arm = c .before .before in
+    let a = arm .before .before .args in
     c .head-fits .ensures
-    ∙ sym (ap (λ (q : InnerBox). within (innerBounds (c .before .before .before .before .args .ls) q)) (c .before .before .b .given .1))
+    ∙ sym (ap (λ (q : InnerBox). within (innerBounds (a .ls) q)) (arm .b .given .1))
 
 returns-2 : tie.Need-returns-2
 unfolding innerBounds
 returns-2 c =
-    joined _ _
-    (c .before .before .less .ensures ∙ ap (λ (d : ℕ). within (below d 4 ∷ [])) (c .before .before .before .depth .ensures))
-    (c .before .sidx-fits .ensures) (c .both .ensures)
-    ∙ sym
-    (ap (λ (q : InnerBox). within (innerBounds (c .before .before .before .before .before .before .before .args .ls) q))
-    (c .before .before .before .before .before .b2 .given .1))
+    let at-sidx-fits = c .before in
+    let compared = at-sidx-fits .before in
+    let deep = compared .before in
+    let arm = deep .before .before in
+    let a = arm .before .before .args in
+    joined _ _ (compared .less .ensures ∙ ap (λ (d : ℕ). within (below d 4 ∷ [])) (deep .depth .ensures)) (at-sidx-fits .sidx-fits .ensures) (c .both .ensures)
+    ∙ sym (ap (λ (q : InnerBox). within (innerBounds (a .ls) q)) (arm .b2 .given .1))
 
 pub inner-fits-spec : {M : Type 1} → statement M
 inner-fits-spec =

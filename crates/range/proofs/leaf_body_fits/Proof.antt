@@ -1,4 +1,4 @@
--- `range::leaf_body_fits` meets its contract.
+-- `range::leaf_body_fits` meets its contract, by that of `moof_fits`, by the law `all-of-none`, and by the definition of `leafBodyBounds`.
 use mathlib.Core.Path.{sym, ap, _∙_}
 use Rattle.state.specs.Ranges.{within, leafBodyBounds}
 use Rattle.range.proofs.Joined.{all-of-none}

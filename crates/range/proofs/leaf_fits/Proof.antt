@@ -1,4 +1,4 @@
--- `range::leaf_fits` meets its contract.
+-- `range::leaf_fits` meets its contract, by those of `head_fits` and `leaf_body_fits`, and by the definition of `leafBounds`.
 use mathlib.Core.Path.{sym, ap, _∙_}
 use Rattle.state.specs.Ranges.{within, leafBounds}
 use Rattle.state.specs.declared.LeafBoxes.{LeafBoxes}

@@ -1,4 +1,4 @@
--- `range::less` meets its contract.
+-- `range::less` meets its contract, by the laws `first-fails` and `one-holds`.
 use Prim.Native.Nat.{suc}
 use mathlib.Core.List.{[]}
 use native.Mathlib.Omega.{arith}

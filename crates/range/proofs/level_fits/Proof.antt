@@ -1,4 +1,4 @@
--- `range::level_fits` meets its contract.
+-- `range::level_fits` meets its contract, by those of `at_most` and `both`, and by the law `joined`.
 use Rattle.range.proofs.Joined.{joined}
 use borrow.Author.Needs.{needs}
 use Rattle.range.proofs.level_fits.Statement.{statement}

@@ -1,4 +1,4 @@
--- `range::levels_fit` meets its contract.
+-- `range::levels_fit` meets its contract, by those of `level_fits`, `two_fit`, `three_fit` and `four_fit`, and by the definition of `levelsBounds`.
 use mathlib.Core.Path.{sym, ap, _∙_}
 use Rattle.state.specs.Ranges.{within, levelsBounds}
 use Rattle.state.specs.declared.Levels.{Levels}

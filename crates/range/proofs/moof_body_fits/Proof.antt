@@ -1,4 +1,4 @@
--- `range::moof_body_fits` meets its contract.
+-- `range::moof_body_fits` meets its contract, by that of `traf_fits`, by the law `all-of-none`, and by the definition of `moofBodyBounds`.
 use mathlib.Core.Path.{sym, ap, _∙_}
 use Rattle.state.specs.Ranges.{within, moofBodyBounds}
 use Rattle.range.proofs.Joined.{all-of-none}

@@ -1,4 +1,4 @@
--- `range::moof_fits` meets its contract.
+-- `range::moof_fits` meets its contract, by those of `head_fits` and `moof_body_fits`, and by the definition of `moofBounds`.
 use mathlib.Core.Path.{sym, ap, _∙_}
 use Rattle.state.specs.Ranges.{within, moofBounds}
 use Rattle.state.specs.declared.MoofBoxes.{MoofBoxes}

@@ -1,4 +1,4 @@
--- `range::nested_fits` meets its contract.
+-- `range::nested_fits` meets its contract, by those of `top_fits`, `levels_fit` and `both`, and by the law `joined`.
 use Rattle.range.proofs.Joined.{joined}
 use borrow.Author.Needs.{needs}
 use Rattle.range.proofs.nested_fits.Statement.{statement}

@@ -1,4 +1,4 @@
--- `range::next_entry_fits` meets its contract.
+-- `range::next_entry_fits` meets its contract, by those of `inmost`, `less`, `at_most` and `both`, and by the law `joined`.
 use mathlib.Core.Path.{ap, _∙_}
 use mathlib.Core.List.{[], _∷_}
 use Rattle.state.specs.Ranges.{atMost, below, within}
@@ -22,11 +22,13 @@ both-requires c κs = search needs
 
 returns : tie.Need-returns
 returns c =
-    joined _ _
-    (c .before .before .less .ensures ∙ ap (λ (l : Level). within (below (l .next) (l .count) ∷ [])) (c .before .before .before .inmost .ensures))
-    (c .before .at-most .ensures
-    ∙ ap (λ (l : Level). within (atMost (c .before .before .before .before .args .at) (l .until) ∷ [])) (c .before .before .before .inmost .ensures))
-    (c .both .ensures)
+    let bound1 = c .before in
+    let compared = bound1 .before in
+    let innermost = compared .before in
+    let a = innermost .before .args in
+    let next = compared .less .ensures ∙ ap (λ (l : Level). within (below (l .next) (l .count) ∷ [])) (innermost .inmost .ensures) in
+    let until = bound1 .at-most .ensures ∙ ap (λ (l : Level). within (atMost (a .at) (l .until) ∷ [])) (innermost .inmost .ensures) in
+    joined _ _ next until (c .both .ensures)
 
 pub next-entry-fits-spec : {M : Type 1} → statement M
 next-entry-fits-spec =

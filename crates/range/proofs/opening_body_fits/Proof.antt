@@ -1,4 +1,5 @@
--- `range::opening_body_fits` meets its contract.
+-- `range::opening_body_fits` meets its contract, by those of `spelling_fits` and `sidx_fits`, by the law `all-of-none`, and by the definition of
+-- `openingBodyBounds`.
 use mathlib.Core.Path.{sym, ap, _∙_}
 use Rattle.state.specs.Ranges.{within, openingBodyBounds}
 use Rattle.range.proofs.Joined.{all-of-none}

@@ -1,4 +1,4 @@
--- `range::opening_fits` meets its contract.
+-- `range::opening_fits` meets its contract, by those of `head_fits` and `opening_body_fits`, and by the definition of `openingBounds`.
 use mathlib.Core.Path.{sym, ap, _∙_}
 use Rattle.state.specs.Ranges.{within, openingBounds}
 use Rattle.state.specs.declared.OpeningBoxes.{OpeningBoxes}

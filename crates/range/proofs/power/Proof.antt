@@ -1,4 +1,4 @@
--- `range::power` meets its contract.
+-- `range::power` meets its contract, by the law `seven`.
 use Prim.Native.Nat.{ℕ, _^_}
 use mathlib.Core.Path.{sym, ap}
 use Rattle.range.proofs.Joined.{seven}

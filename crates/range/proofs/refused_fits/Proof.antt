@@ -1,4 +1,4 @@
--- `range::refused_fits` meets its contract.
+-- `range::refused_fits` meets its contract, by those of `counts_fit`, `at_most` and `both`, by the law `joined`, and by the definition of `bounds`.
 use Rattle.state.specs.Ranges.{bounds}
 use Rattle.range.proofs.Joined.{joined}
 use borrow.Author.Needs.{needs}
@@ -26,10 +26,11 @@ both-requires-2 c κs = search needs
 returns : tie.Need-returns
 unfolding bounds
 returns c =
-    joined _ _
-    (c .before .before .before .before .counts-fit .ensures)
-    (joined _ _ (c .before .before .before .at-most .ensures) (c .before .before .at-most2 .ensures) (c .before .both .ensures))
-    (c .both2 .ensures)
+    let both1 = c .before in
+    let bound2 = both1 .before in
+    let bound1 = bound2 .before in
+    let at-counts-fit = bound1 .before in
+    joined _ _ (at-counts-fit .counts-fit .ensures) (joined _ _ (bound1 .at-most .ensures) (bound2 .at-most2 .ensures) (both1 .both .ensures)) (c .both2 .ensures)
 
 pub refused-fits-spec : {M : Type 1} → statement M
 refused-fits-spec =

@@ -1,4 +1,4 @@
--- `range::scale_least` meets its contract.
+-- `range::scale_least` meets its contract, by the definition of `scaleLeast`.
 use mathlib.Core.Path.{sym, ap}
 use Rattle.state.specs.Ranges.{scaleLeast}
 use Rattle.state.specs.declared.IndexPart.{IndexPart}

@@ -1,4 +1,5 @@
--- `range::sidx_fits` meets its contract.
+-- `range::sidx_fits` meets its contract, by those of `index_most`, `scale_least`, `draft_fits`, `spelling_fits`, `both` and `sums_fit`, by the laws
+-- `joined` and `index-low`, and by the definition of `sidxBounds`.
 use Prim.Native.Nat.{ℕ}
 use mathlib.Core.Path.{sym, ap, _∙_}
 use Rattle.state.specs.Ranges.{within, spelled, draftBounds, sidxBounds}
@@ -22,8 +23,9 @@ draft-fits-requires c κs = search needs
 
 spelling-fits-requires : tie.Need-spelling-fits-requires
 spelling-fits-requires c κs =
-    rw (c .before .before .index-most .ensures)
-    (index-low (c .before .before .before .before .s .given .0 .0) (c .before .before .before .before .s .given .0 .1 .0 .wide))
+    let at-index-most = c .before .before in
+    let arm = at-index-most .before .before in
+    rw (at-index-most .index-most .ensures) (index-low (arm .s .given .0 .0) (arm .s .given .0 .1 .0 .wide))
 
 both-requires : tie.Need-both-requires
 both-requires c κs = search needs
@@ -49,24 +51,28 @@ both-requires-3 c κs = search needs
 returns : tie.Need-returns
 unfolding sidxBounds
 returns c =
-    joined _ _
-    (c .before .before .draft-fits .ensures
-    ∙ ap (λ (m : ℕ). within (draftBounds m (c .before .before .before .before .before .before .s .given .0 .1 .0)))
-    (c .before .before .before .scale-least .ensures))
-    (c .before .spelling-fits .ensures
-    ∙ ap (λ (m : ℕ). within (spelled m (c .before .before .before .before .before .before .s .given .0 .1 .1 .0) (c .before .before .before .before .before .before .s .given .0 .1 .1 .1 .0)))
-    (c .before .before .before .before .index-most .ensures))
-    (c .both .ensures)
-    ∙ sym (ap (λ (q : Sidx). within (sidxBounds q)) (c .before .before .before .before .before .before .s .given .1))
+    let at-spelling-fits = c .before in
+    let at-draft-fits = at-spelling-fits .before in
+    let at-scale-least = at-draft-fits .before in
+    let at-index-most = at-scale-least .before in
+    let arm = at-index-most .before .before in
+    let fields = arm .s .given .0 .1 in
+    let draft = at-draft-fits .draft-fits .ensures ∙ ap (λ (m : ℕ). within (draftBounds m (fields .0))) (at-scale-least .scale-least .ensures) in
+    let number = at-spelling-fits .spelling-fits .ensures ∙ ap (λ (m : ℕ). within (spelled m (fields .1 .0) (fields .1 .1 .0))) (at-index-most .index-most .ensures) in
+    joined _ _ draft number (c .both .ensures)
+    ∙ sym (ap (λ (q : Sidx). within (sidxBounds q)) (arm .s .given .1))
 
 returns-2 : tie.Need-returns-2
 unfolding sidxBounds
 returns-2 c =
-    joined _ _
-    (c .before .before .before .before .draft-fits2 .ensures)
-    (joined _ _ (c .before .before .before .sums-fit .ensures) (c .before .before .spelling-fits2 .ensures) (c .before .both2 .ensures))
+    let both2 = c .before in
+    let at-spelling-fits2 = both2 .before in
+    let at-sums-fit = at-spelling-fits2 .before in
+    let at-draft-fits2 = at-sums-fit .before in
+    let arm = at-draft-fits2 .before .before in
+    joined _ _ (at-draft-fits2 .draft-fits2 .ensures) (joined _ _ (at-sums-fit .sums-fit .ensures) (at-spelling-fits2 .spelling-fits2 .ensures) (both2 .both2 .ensures))
     (c .both3 .ensures)
-    ∙ sym (ap (λ (q : Sidx). within (sidxBounds q)) (c .before .before .before .before .before .before .s2 .given .1))
+    ∙ sym (ap (λ (q : Sidx). within (sidxBounds q)) (arm .s2 .given .1))
 
 pub sidx-fits-spec : {M : Type 1} → statement M
 sidx-fits-spec =

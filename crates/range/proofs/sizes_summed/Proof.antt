@@ -1,4 +1,4 @@
--- `range::sizes_summed` meets its contract.
+-- `range::sizes_summed` meets its contract, by the definition of `sizesRead`.
 use mathlib.Core.Path.{sym, ap, _∙_}
 use native.Mathlib.Numerals.{add-one}
 use Rattle.state.specs.Ranges.{sizesRead}

@@ -1,4 +1,4 @@
--- `range::slot_fits` meets its contract.
+-- `range::slot_fits` meets its contract, by those of `inmost`, `at_most` and `both`, and by the law `joined`.
 use mathlib.Core.Path.{ap, _∙_}
 use mathlib.Core.List.{[], _∷_}
 use Rattle.state.specs.Ranges.{atMost, within}
@@ -28,15 +28,14 @@ both-requires-2 c κs = search needs
 
 returns : tie.Need-returns
 returns c =
-    joined _ _
-    (c .before .before .before .before .at-most .ensures)
-    (joined _ _
-    (c .before .before .before .at-most2 .ensures)
-    (c .before .before .at-most3 .ensures
-    ∙ ap (λ (l : Level). within (atMost (c .before .before .before .before .before .before .args .s .until) (l .until) ∷ []))
-    (c .before .before .before .before .before .inmost .ensures))
-    (c .before .both .ensures))
-    (c .both2 .ensures)
+    let both1 = c .before in
+    let bound3 = both1 .before in
+    let bound2 = bound3 .before in
+    let bound1 = bound2 .before in
+    let innermost = bound1 .before in
+    let a = innermost .before .args in
+    let until = bound3 .at-most3 .ensures ∙ ap (λ (l : Level). within (atMost (a .s .until) (l .until) ∷ [])) (innermost .inmost .ensures) in
+    joined _ _ (bound1 .at-most .ensures) (joined _ _ (bound2 .at-most2 .ensures) until (both1 .both .ensures)) (c .both2 .ensures)
 
 pub slot-fits-spec : {M : Type 1} → statement M
 slot-fits-spec =

@@ -1,4 +1,4 @@
--- `range::spelling_fits` meets its contract.
+-- `range::spelling_fits` meets its contract, by those of `power` and `less`, and by the laws `first-holds` and `first-fails`.
 use Prim.Native.Nat.{ℕ}
 use mathlib.Core.Path.{ap, _∙_}
 use mathlib.Core.List.{[], _∷_}
@@ -20,9 +20,11 @@ less-requires c κs = search needs
 
 returns-2 : tie.Need-returns-2
 returns-2 c =
+    let at-power = c .before in
+    let a = at-power .before .before .args in
     c .less .ensures
-    ∙ ap (λ (p : ℕ). within (below (c .before .before .before .args .acc) p ∷ [])) (c .before .power .ensures)
-    ∙ first-holds (c .before .before .before .args .more) (c .before .before .before .args .most) _ (omega arith)
+    ∙ ap (λ (p : ℕ). within (below (a .acc) p ∷ [])) (at-power .power .ensures)
+    ∙ first-holds (a .more) (a .most) _ (omega arith)
 
 pub spelling-fits-spec : {M : Type 1} → statement M
 spelling-fits-spec = tie.close (tie.spec returns power-requires less-requires returns-2)

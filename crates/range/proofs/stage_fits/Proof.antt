@@ -1,4 +1,5 @@
--- `range::stage_fits` meets its contract.
+-- `range::stage_fits` meets its contract, by those of `opening_fits`, `gap_stage_fits`, `nested_fits`, `next_entry_fits`, `both`, `slot_fits`,
+-- `leaf_fits` and `inner_fits`, by the law `joined`, and by the definition of `stageBounds`.
 use mathlib.Core.Path.{sym, ap, _∙_}
 use Rattle.state.specs.Ranges.{within, stageBounds}
 use Rattle.range.proofs.Joined.{joined}
@@ -70,45 +71,54 @@ both-requires-5 c κs = search needs
 returns : tie.Need-returns
 unfolding stageBounds
 returns c =
+    let arm = c .before .before in
+    let a = arm .before .before .args in
     c .opening-fits .ensures
-    ∙ sym (ap (λ (q : Stage). within (stageBounds q (c .before .before .before .before .args .at))) (c .before .before .s .given .1))
+    ∙ sym (ap (λ (q : Stage). within (stageBounds q (a .at))) (arm .s .given .1))
 
 returns-2 : tie.Need-returns-2
 unfolding stageBounds
 returns-2 c =
+    let arm = c .before .before in
+    let a = arm .before .before .args in
     c .gap-stage-fits .ensures
-    ∙ sym (ap (λ (q : Stage). within (stageBounds q (c .before .before .before .before .args .at))) (c .before .before .s2 .given .1))
+    ∙ sym (ap (λ (q : Stage). within (stageBounds q (a .at))) (arm .s2 .given .1))
 
 returns-3 : tie.Need-returns-3
 unfolding stageBounds
 returns-3 c =
-    joined _ _ (c .before .before .nested-fits .ensures) (c .before .next-entry-fits .ensures) (c .both .ensures)
-    ∙ sym
-    (ap (λ (q : Stage). within (stageBounds q (c .before .before .before .before .before .before .args .at)))
-    (c .before .before .before .before .s3 .given .1))
+    let at-next-entry-fits = c .before in
+    let at-nested-fits = at-next-entry-fits .before in
+    let arm = at-nested-fits .before .before in
+    let a = arm .before .before .args in
+    joined _ _ (at-nested-fits .nested-fits .ensures) (at-next-entry-fits .next-entry-fits .ensures) (c .both .ensures)
+    ∙ sym (ap (λ (q : Stage). within (stageBounds q (a .at))) (arm .s3 .given .1))
 
 returns-4 : tie.Need-returns-4
 unfolding stageBounds
 returns-4 c =
-    joined _ _ (c .before .nested-fits2 .ensures)
-    (joined _ _ (c .before .before .before .before .slot-fits .ensures) (c .before .before .before .leaf-fits .ensures) (c .before .before .both2 .ensures))
+    let at-nested-fits2 = c .before in
+    let both2 = at-nested-fits2 .before in
+    let at-leaf-fits = both2 .before in
+    let at-slot-fits = at-leaf-fits .before in
+    let arm = at-slot-fits .before .before in
+    let a = arm .before .before .args in
+    joined _ _ (at-nested-fits2 .nested-fits2 .ensures) (joined _ _ (at-slot-fits .slot-fits .ensures) (at-leaf-fits .leaf-fits .ensures) (both2 .both2 .ensures))
     (c .both3 .ensures)
-    ∙ sym
-    (ap (λ (q : Stage). within (stageBounds q (c .before .before .before .before .before .before .before .before .args .at)))
-    (c .before .before .before .before .before .before .s4 .given .1))
+    ∙ sym (ap (λ (q : Stage). within (stageBounds q (a .at))) (arm .s4 .given .1))
 
 returns-5 : tie.Need-returns-5
 unfolding stageBounds
 returns-5 c =
-    joined _ _ (c .before .nested-fits3 .ensures)
-    (joined _ _
-    (c .before .before .before .before .slot-fits2 .ensures)
-    (c .before .before .before .inner-fits .ensures)
-    (c .before .before .both4 .ensures))
+    let at-nested-fits3 = c .before in
+    let both4 = at-nested-fits3 .before in
+    let at-inner-fits = both4 .before in
+    let at-slot-fits2 = at-inner-fits .before in
+    let arm = at-slot-fits2 .before .before in
+    let a = arm .before .before .args in
+    joined _ _ (at-nested-fits3 .nested-fits3 .ensures) (joined _ _ (at-slot-fits2 .slot-fits2 .ensures) (at-inner-fits .inner-fits .ensures) (both4 .both4 .ensures))
     (c .both5 .ensures)
-    ∙ sym
-    (ap (λ (q : Stage). within (stageBounds q (c .before .before .before .before .before .before .before .before .args .at)))
-    (c .before .before .before .before .before .before .s5 .given .1))
+    ∙ sym (ap (λ (q : Stage). within (stageBounds q (a .at))) (arm .s5 .given .1))
 
 pub stage-fits-spec : {M : Type 1} → statement M
 stage-fits-spec =

@@ -1,4 +1,4 @@
--- `range::sum_fits` meets its contract.
+-- `range::sum_fits` meets its contract, by the laws `first-fails` and `one-holds`.
 use Prim.Native.Nat.{suc, _+_}
 use mathlib.Core.List.{[]}
 use native.Mathlib.Omega.{arith}

@@ -1,4 +1,5 @@
--- `range::sums_fit` meets its contract.
+-- `range::sums_fit` meets its contract, by those of `sizes_summed`, `durations_summed`, `at_most` and `both`, and by the laws `first-holds`,
+-- `first-fails`, `joined`, `sizes-read-low` and `durations-read-low`.
 use Prim.Native.Nat.{ℕ, suc, _*_}
 use mathlib.Core.Path.{ap, _∙_}
 use mathlib.Core.List.{[], _∷_}
@@ -15,8 +16,9 @@ returns c = first-fails (suc (c .before .before .args .s .next)) (c .before .bef
 
 returns-2 : tie.Need-returns-2
 returns-2 c =
-    first-fails (c .before .before .before .before .args .s .count) mostEntries _ (omega arith)
-    ∙ first-holds (suc (c .before .before .before .before .args .s .next)) (c .before .before .before .before .args .s .count) _ (omega arith)
+    let a = c .before .before .before .before .args in
+    first-fails (a .s .count) mostEntries _ (omega arith)
+    ∙ first-holds (suc (a .s .next)) (a .s .count) _ (omega arith)
 
 sizes-summed-requires : tie.Need-sizes-summed-requires
 sizes-summed-requires c κs = search needs
@@ -26,12 +28,12 @@ durations-summed-requires c κs = search needs
 
 mul-at-most : tie.Need-mul-at-most
 mul-at-most c =
+    let at-sizes-summed = c .before in
+    let a = at-sizes-summed .before .before .before .before .before .args in
     omega (
       arith,
-      c .before .sizes-summed .ensures,
-      sizes-read-low
-          (c .before .before .before .before .before .before .args .e)
-          (c .before .before .before .before .before .before .args .s .next),
+      at-sizes-summed .sizes-summed .ensures,
+      sizes-read-low (a .e) (a .s .next),
     )
 
 at-most-requires : tie.Need-at-most-requires
@@ -39,12 +41,12 @@ at-most-requires c κs = search needs
 
 mul-at-most-2 : tie.Need-mul-at-most-2
 mul-at-most-2 c =
+    let at-durations-summed = c .before in
+    let a = at-durations-summed .before .before .before .before .before .before .args in
     omega (
       arith,
-      c .before .durations-summed .ensures,
-      durations-read-low
-          (c .before .before .before .before .before .before .before .args .e)
-          (c .before .before .before .before .before .before .before .args .s .next),
+      at-durations-summed .durations-summed .ensures,
+      durations-read-low (a .e) (a .s .next),
     )
 
 at-most-requires-2 : tie.Need-at-most-requires-2
@@ -55,18 +57,16 @@ both-requires c κs = search needs
 
 returns-3 : tie.Need-returns-3
 returns-3 c =
-    joined _ _
-    (c .before .before .at-most .ensures
-    ∙ ap (λ (m : ℕ). within (atMost (c .before .before .before .before .before .before .before .before .before .args .s .sizes) (typeBit * m) ∷ []))
-    (c .before .before .before .before .sizes-summed .ensures))
-    (c .before .at-most2 .ensures
-    ∙ ap (λ (m : ℕ). within (atMost (c .before .before .before .before .before .before .before .before .before .args .s .durations) (wordLimit * m) ∷ []))
-    (c .before .before .before .durations-summed .ensures))
-    (c .both .ensures)
-    ∙ first-holds (c .before .before .before .before .before .before .before .before .before .args .s .count) mostEntries _ (omega arith)
-    ∙ first-holds
-    (suc (c .before .before .before .before .before .before .before .before .before .args .s .next))
-    (c .before .before .before .before .before .before .before .before .before .args .s .count)
+    let bound2 = c .before in
+    let bound1 = bound2 .before in
+    let at-durations-summed = bound1 .before in
+    let at-sizes-summed = at-durations-summed .before in
+    let a = at-sizes-summed .before .before .before .before .before .args in
+    let sizes = bound1 .at-most .ensures ∙ ap (λ (m : ℕ). within (atMost (a .s .sizes) (typeBit * m) ∷ [])) (at-sizes-summed .sizes-summed .ensures) in
+    let durations = bound2 .at-most2 .ensures ∙ ap (λ (m : ℕ). within (atMost (a .s .durations) (wordLimit * m) ∷ [])) (at-durations-summed .durations-summed .ensures) in
+    joined _ _ sizes durations (c .both .ensures)
+    ∙ first-holds (a .s .count) mostEntries _ (omega arith)
+    ∙ first-holds (suc (a .s .next)) (a .s .count)
     _ (omega arith)
 
 pub sums-fit-spec : {M : Type 1} → statement M

@@ -1,4 +1,4 @@
--- `range::three_fit` meets its contract.
+-- `range::three_fit` meets its contract, by those of `at_most`, `both` and `level_fits`, by the law `joined`, and by the definition of `levelsBounds`.
 use Rattle.state.specs.Ranges.{levelsBounds}
 use Rattle.range.proofs.Joined.{joined}
 use borrow.Author.Needs.{needs}
@@ -35,19 +35,18 @@ both-requires-4 c κs = search needs
 returns : tie.Need-returns
 unfolding levelsBounds
 returns c =
-    joined _ _
-    (c .before .before .before .before .before .level-fits .ensures)
-    (joined _ _
-    (c .before .before .before .before .level-fits2 .ensures)
-    (joined _ _
-    (c .before .before .before .level-fits3 .ensures)
-    (joined _ _
-    (c .before .before .before .before .before .before .before .before .at-most .ensures)
-    (c .before .before .before .before .before .before .before .at-most2 .ensures)
-    (c .before .before .before .before .before .before .both .ensures))
-    (c .before .before .both2 .ensures))
-    (c .before .both3 .ensures))
-    (c .both4 .ensures)
+    let both3 = c .before in
+    let both2 = both3 .before in
+    let level3 = both2 .before in
+    let level2 = level3 .before in
+    let level1 = level2 .before in
+    let both1 = level1 .before in
+    let bound2 = both1 .before in
+    let bound1 = bound2 .before in
+    let untils = joined _ _ (bound1 .at-most .ensures) (bound2 .at-most2 .ensures) (both1 .both .ensures) in
+    let third = joined _ _ (level3 .level-fits3 .ensures) untils (both2 .both2 .ensures) in
+    let second = joined _ _ (level2 .level-fits2 .ensures) third (both3 .both3 .ensures) in
+    joined _ _ (level1 .level-fits .ensures) second (c .both4 .ensures)
 
 pub three-fit-spec : {M : Type 1} → statement M
 three-fit-spec =

@@ -1,4 +1,4 @@
--- `range::top_fits` meets its contract.
+-- `range::top_fits` meets its contract, by those of `less`, `at_most`, `both` and `sum_fits`, and by the law `joined`.
 use Rattle.range.proofs.Joined.{joined}
 use borrow.Author.Needs.{needs}
 use Rattle.range.proofs.top_fits.Statement.{statement}
@@ -27,13 +27,14 @@ both-requires-3 c κs = search needs
 
 returns : tie.Need-returns
 returns c =
-    joined _ _
-    (joined _ _
-    (c .before .before .before .before .before .before .less .ensures)
-    (c .before .before .before .before .before .at-most .ensures)
-    (c .before .before .before .before .both .ensures))
-    (joined _ _ (c .before .before .before .less2 .ensures) (c .before .before .sum-fits .ensures) (c .before .both2 .ensures))
-    (c .both3 .ensures)
+    let both2 = c .before in
+    let at-sum-fits = both2 .before in
+    let compared2 = at-sum-fits .before in
+    let both1 = compared2 .before in
+    let bound1 = both1 .before in
+    let compared = bound1 .before in
+    joined _ _ (joined _ _ (compared .less .ensures) (bound1 .at-most .ensures) (both1 .both .ensures))
+    (joined _ _ (compared2 .less2 .ensures) (at-sum-fits .sum-fits .ensures) (both2 .both2 .ensures)) (c .both3 .ensures)
 
 pub top-fits-spec : {M : Type 1} → statement M
 top-fits-spec =

@@ -1,4 +1,5 @@
--- `range::traf_body_fits` meets its contract.
+-- `range::traf_body_fits` meets its contract, by those of `traf_most` and `spelling_fits`, by the laws `all-of-none` and `traf-low`, and by the
+-- definition of `trafBodyBounds`.
 use Prim.Native.Nat.{ℕ}
 use mathlib.Core.Path.{sym, ap, _∙_}
 use Rattle.state.specs.Ranges.{within, spelled, trafBodyBounds}
@@ -34,9 +35,11 @@ returns-2 c = all-of-none ∙ sym (ap (λ (q : TrafBody). within (trafBodyBounds
 returns-3 : tie.Need-returns-3
 unfolding trafBodyBounds
 returns-3 c =
+    let at-traf-most = c .before in
+    let arm = at-traf-most .before .before in
     c .spelling-fits .ensures
-    ∙ ap (λ (m : ℕ). within (spelled m (c .before .before .before .s .given .0 .1 .0) (c .before .before .before .s .given .0 .1 .1 .0))) (c .before .traf-most .ensures)
-    ∙ sym (ap (λ (q : TrafBody). within (trafBodyBounds q)) (c .before .before .before .s .given .1))
+    ∙ ap (λ (m : ℕ). within (spelled m (arm .s .given .0 .1 .0) (arm .s .given .0 .1 .1 .0))) (at-traf-most .traf-most .ensures)
+    ∙ sym (ap (λ (q : TrafBody). within (trafBodyBounds q)) (arm .s .given .1))
 
 pub traf-body-fits-spec : {M : Type 1} → statement M
 traf-body-fits-spec =

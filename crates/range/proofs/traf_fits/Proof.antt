@@ -1,4 +1,4 @@
--- `range::traf_fits` meets its contract.
+-- `range::traf_fits` meets its contract, by those of `head_fits` and `traf_body_fits`, and by the definition of `trafBounds`.
 use mathlib.Core.Path.{sym, ap, _∙_}
 use Rattle.state.specs.Ranges.{within, trafBounds}
 use Rattle.state.specs.declared.TrafBoxes.{TrafBoxes}

@@ -1,4 +1,4 @@
--- `range::traf_most` meets its contract.
+-- `range::traf_most` meets its contract, by the definition of `trafMost`.
 use mathlib.Core.Path.{sym, ap}
 use Rattle.state.specs.Ranges.{trafMost}
 use Rattle.state.specs.declared.TrafPart.{TrafPart}

@@ -1,4 +1,4 @@
--- `range::two_fit` meets its contract.
+-- `range::two_fit` meets its contract, by those of `level_fits`, `at_most` and `both`, by the law `joined`, and by the definition of `levelsBounds`.
 use Rattle.state.specs.Ranges.{levelsBounds}
 use Rattle.range.proofs.Joined.{joined}
 use borrow.Author.Needs.{needs}
@@ -23,10 +23,11 @@ both-requires-2 c κs = search needs
 returns : tie.Need-returns
 unfolding levelsBounds
 returns c =
-    joined _ _
-    (c .before .before .before .before .level-fits .ensures)
-    (joined _ _ (c .before .before .before .level-fits2 .ensures) (c .before .before .at-most .ensures) (c .before .both .ensures))
-    (c .both2 .ensures)
+    let both1 = c .before in
+    let bound1 = both1 .before in
+    let level2 = bound1 .before in
+    let level1 = level2 .before in
+    joined _ _ (level1 .level-fits .ensures) (joined _ _ (level2 .level-fits2 .ensures) (bound1 .at-most .ensures) (both1 .both .ensures)) (c .both2 .ensures)
 
 pub two-fit-spec : {M : Type 1} → statement M
 two-fit-spec =

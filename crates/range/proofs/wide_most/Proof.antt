@@ -1,4 +1,4 @@
--- `range::wide_most` meets its contract.
+-- `range::wide_most` meets its contract, by the definition of `wideMore`.
 use mathlib.Core.Path.{sym, ap}
 use Rattle.state.specs.Sidx.{wideMore}
 use Rattle.range.proofs.wide_most.Statement.{statement}
