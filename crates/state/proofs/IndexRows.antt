@@ -23,7 +23,8 @@ use Rattle.state.specs.declared.EntryPart.the-variants as entry
 use Rattle.state.specs.declared.Sidx.{Sidx}
 use Rattle.state.specs.declared.Sidx.the-variants as sidx
 use Rattle.state.specs.Flow.{Flow, Left, left}
-use Rattle.state.specs.Sidx.{Place, topmost, under, sidxVersionFaults, idFaults, scaleFaults, timeFaults, offsetFaults, countFaults, sumFaults, wideMore, closeSidx, fieldEnds, plusSize, entryEnds, keepByte, stepSidx}
+use Rattle.state.specs.Sidx.{Place, topmost, under, sidxVersionFaults, idFaults, scaleFaults, timeFaults, offsetFaults, countFaults, sumFaults}
+use Rattle.state.specs.Sidx.{wideMore, closeSidx, fieldEnds, plusSize, entryEnds, keepByte, stepSidx}
 use Rattle.state.proofs.Edges.{length-before-count}
 
 abbrev Ends : Type 0
