@@ -1,15 +1,15 @@
 // The lines of a file of data: each is one case, its first field the name.
-use cuttings::Tally;
-use cuttings::run_segment;
-use data::files::read_file;
-use data::text::decode;
-use data::text::field;
-use data::text::line_at;
-use data::text::next_line;
-use data::text::part;
-use script::run_script;
-use trial::prints::print;
-use trial::prints::print_number;
+use cases_cuttings::Tally;
+use cases_cuttings::run_segment;
+use cases_data::files::read_file;
+use cases_data::text::decode;
+use cases_data::text::field;
+use cases_data::text::line_at;
+use cases_data::text::next_line;
+use cases_data::text::part;
+use cases_script::run_script;
+use cases_trial::prints::print;
+use cases_trial::prints::print_number;
 
 // What a file's lines are.
 pub enum Kind {

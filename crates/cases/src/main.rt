@@ -2,10 +2,10 @@
 // The file `stdout` has what document 01 asks for. A line has `differs` only where a reading in pieces is not that of the whole.
 mod lines;
 
-use cuttings::Tally;
-use cuttings::print_tally;
-use data::files::read_file;
-use data::text::part;
+use cases_cuttings::Tally;
+use cases_cuttings::print_tally;
+use cases_data::files::read_file;
+use cases_data::text::part;
 use lines::Kind;
 use lines::run_lines;
 

@@ -18,8 +18,8 @@ use Rattle.state.specs.Calls.{Out, out, flowOf, stateOf, workOf, tableOf, answe
 use Rattle.state.specs.Ranges.{bounds, inRange, InRange}
 use Rattle.state.proofs.Jump.{passing-there, passing-limit, run-passing}
 use Rattle.state.proofs.Cuts.{stateNext, state-join, feed-short, feed-outside, feed-inside}
-use Rattle.step.specs.Answers.{answered}
-use Rattle.step.proofs.Laws.{left-with}
+use Rattle.byte.specs.Answers.{answered}
+use Rattle.byte.proofs.Laws.{left-with}
 use Rattle.spelling.specs.Together.{Taken, taken, spelledOn}
 use Rattle.spelling.proofs.Laws.{spelled-later, spelled-fed}
 use Rattle.jump.specs.Passes.{passes, passedOn, Fitting}

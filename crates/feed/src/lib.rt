@@ -1,4 +1,5 @@
 // The reader fed in parts: start, feed and finish. A state goes in by value and comes back by value; nothing else is kept.
+use byte::state_byte;
 pub use finish::Finished;
 pub use finish::finish;
 use jump::pass;
@@ -10,7 +11,6 @@ use spelling::spell_on;
 pub use start::start;
 use state::FeedAnswer;
 use state::State;
-use step::state_byte;
 ghost use mathlib.Core.Path.{_≡_};
 ghost use Prim.Native.Nat.{_≤_, _<_};
 ghost use lib.ListN.{length};
@@ -20,7 +20,7 @@ ghost use Rattle.machine.specs.Faults.{refusal};
 ghost use Rattle.state.specs.Calls.{out, feedOf, feedState};
 ghost use Rattle.state.specs.Ranges.{InRange};
 ghost use Rattle.state.specs.declared.FeedAnswer.the-variants as feeds;
-ghost use Rattle.step.specs.Answers.{answered};
+ghost use Rattle.byte.specs.Answers.{answered};
 ghost use Rattle.feed.specs.Advanced.{Advanced};
 
 const WORK_BYTES: usize = 49152;

@@ -21,9 +21,9 @@ use state::MoofBoxes;
 use state::Seen;
 use state::Slot;
 use state::Span;
-use track::TrackStep;
-use track::traf_begin;
-use track::traf_byte;
+use traf::TrafStep;
+use traf::traf_begin;
+use traf::traf_byte;
 ghost use Prim.Native.Nat.{ℕ, _+_, _<_};
 ghost use mathlib.Core.Path.{_≡_};
 ghost use mathlib.Core.Bool.{not, _&&_, _||_};
@@ -39,7 +39,7 @@ ghost use Rattle.state.specs.Flow.{Flow, left};
 ghost use Rattle.state.specs.Rows.{noRoom, leafFaults};
 ghost use Rattle.state.specs.Leaf.{seenNow, skipMoof, liftTraf, beginMoof, stepMoofBody, moofNext, moofBoxes, wrapMoof, stepMoof, skipLeaf, liftMoof, beginLeaf, stepLeafBody, leafNow, leafLacks, leafNext, leafBoxes, wrapLeaf, stepLeaf};
 ghost use Rattle.state.specs.Ranges.{Within, moofBodyBounds, moofBounds, leafBodyBounds, leafBounds};
-ghost use Rattle.track.specs.Track.{viewTrack};
+ghost use Rattle.traf.specs.Views.{viewTraf};
 ghost use Rattle.leaf.specs.Leaf.{passedOf, viewMoofBody, viewMoof, viewLeafBody, viewLeaf, RoomIs, afterBody, afterHeader, afterHead, lackOf};
 
 // The type `traf`, as the number that its letters spell.
@@ -88,13 +88,13 @@ fn skip_moof(stop: u64, n: u64) -> MoofBodyStep
 }
 
 // What a `traf` answers, in its `moof`.
-fn lift_traf(span: Span, r: TrackStep) -> MoofBodyStep
-    ensures { λ q. ⌜ ((f : Flow) → viewMoofBody f q ≡ liftTraf span (viewTrack f r)) ⌝ }
+fn lift_traf(span: Span, r: TrafStep) -> MoofBodyStep
+    ensures { λ q. ⌜ ((f : Flow) → viewMoofBody f q ≡ liftTraf span (viewTraf f r)) ⌝ }
 {
     match r {
-        TrackStep::Go(s) => MoofBodyStep::Go(MoofBody::Traf(span, s)),
-        TrackStep::Done(seen) => MoofBodyStep::Done(Pass::Seeing(seen)),
-        TrackStep::Bad(x) => MoofBodyStep::Bad(x),
+        TrafStep::Go(s) => MoofBodyStep::Go(MoofBody::Traf(span, s)),
+        TrafStep::Done(seen) => MoofBodyStep::Done(Pass::Seeing(seen)),
+        TrafStep::Bad(x) => MoofBodyStep::Bad(x),
     }
 }
 

@@ -30,8 +30,8 @@ use Rattle.state.proofs.RangeNumbers.{stage-fits}
 use Rattle.state.proofs.RangeTests.{spelled-within}
 use Rattle.state.proofs.Ranges.{feed-state-kept}
 use Rattle.state.proofs.State.{the-type}
-use Rattle.numbers.specs.declared.AtHand.{AtHand}
-use Rattle.numbers.specs.Views.{isStored, nextPlace, told}
+use Rattle.number_at_hand.specs.declared.AtHand.{AtHand}
+use Rattle.number_at_hand.specs.Views.{isStored, nextPlace, told}
 use Rattle.spelling.specs.Together.{Taken, taken, together, togetherNow, spelledOn}
 
 -- none of them is the last, they are there, and the count stays within the limit

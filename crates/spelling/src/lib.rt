@@ -1,9 +1,9 @@
 // The bytes of the number that is being read, taken together: none of them is its last, and the state after them.
 use header::spelled;
 use jump::least;
-use numbers::AtHand;
-use numbers::stage_again;
-use numbers::stage_number;
+use number_at_hand::AtHand;
+use number_at_hand::stage_again;
+use number_at_hand::stage_number;
 use state::LIMIT;
 use state::Stage;
 use state::State;
@@ -16,7 +16,7 @@ ghost use Rattle.segment.specs.Constants.{limit, workBytes};
 ghost use Rattle.state.specs.Flow.{putAll};
 ghost use Rattle.state.specs.Numbers.{stageNumber, stageOn, workOn, Fits};
 ghost use Rattle.state.specs.Ranges.{Within, InRange, spelled as spelledBounds};
-ghost use Rattle.numbers.specs.Views.{told};
+ghost use Rattle.number_at_hand.specs.Views.{told};
 ghost use Rattle.spelling.specs.Together.{taken, together, spelledOn};
 
 // A state, and how many bytes of the piece are taken before it.

@@ -40,7 +40,7 @@ use Rattle.state.specs.Opening.{Opened, passed, indexed, unlisted, brandsFrom, 
 use Rattle.opening.specs.Views.{viewOpening}
 use Rattle.opening.specs.declared.OpeningStep.{OpeningStep}
 use Rattle.opening.specs.declared.OpeningStep.the-variants as openings
-use Rattle.onward.specs.Arms.{EndsIn}
+use Rattle.next_stage.specs.Arms.{EndsIn}
 
 -- something holds of the result, where there is one
 abbrev Ending : {S R : Type 0} → (R → Type 0) → Sub S R Flow Left → Type 0

@@ -33,9 +33,9 @@ use Rattle.state.proofs.RangeTests.{within-second, three-within, four-within}
 use Rattle.levels.specs.Views.{readOf}
 use Rattle.levels.specs.declared.EntryRead.{EntryRead}
 use Rattle.levels.specs.declared.EntryRead.the-variants as read
-use Rattle.onward.specs.declared.Running.{Running}
-use Rattle.onward.specs.declared.StageStep.{StageStep}
-use Rattle.onward.specs.Views.{flowing, viewStage}
+use Rattle.next_stage.specs.declared.Running.{Running}
+use Rattle.next_stage.specs.declared.StageStep.{StageStep}
+use Rattle.next_stage.specs.Views.{flowing, viewStage}
 
 pub inner-within : (ls : Levels) (d : ℕ) (s : InnerBox) → d ≡ depth ls → Within (innerBounds ls s) → Within (boxBounds d s)
 unfolding innerBounds boxBounds

@@ -3,7 +3,7 @@ use mathlib.Core.Path.{ap₂}
 use mathlib.Core.List.{List}
 use Prim.Native.Nat.{ℕ}
 use Rattle.basics.specs.Outcome.{Coincide, after}
-use Rattle.onward.proofs.ReadBack.{one-step, one-work, one-table}
+use Rattle.next_stage.proofs.ReadBack.{one-step, one-work, one-table}
 use Rattle.stage.proofs.stage_byte.Kinds as kinds
 use Rattle.stage.proofs.stage_byte.Reads as stated
 

@@ -18,10 +18,10 @@ use Rattle.state.specs.Leaf.{stepLeaf}
 use Rattle.state.specs.Stages.{liftLeaf, stepGap, stepStage}
 use Rattle.leaf.specs.Leaf.{viewLeaf}
 use Rattle.leaf.specs.declared.LeafStep.{LeafStep}
-use Rattle.onward.specs.declared.Running.{Running}
-use Rattle.onward.specs.declared.StageStep.{StageStep}
-use Rattle.onward.specs.Views.{flowing, viewStage}
-use Rattle.onward.specs.Arms.{liftOpening, liftGap, tableAfter}
+use Rattle.next_stage.specs.declared.Running.{Running}
+use Rattle.next_stage.specs.declared.StageStep.{StageStep}
+use Rattle.next_stage.specs.Views.{flowing, viewStage}
+use Rattle.next_stage.specs.Arms.{liftOpening, liftGap, tableAfter}
 
 pub opening-step : (brand : ℕ) (s : OpeningBoxes) (f : Flow) (n b : ℕ) → liftOpening brand (n + 1) (stepOpening brand s f n b) ≡ stepStage (stage.Opening brand s) f n b
 unfolding stepStage

@@ -2,13 +2,13 @@
 use levels::EntryRead;
 use machine::Head;
 use machine::Refusal;
-use onward::Running;
-use onward::StageStep;
-use onward::gap_after;
-use onward::inner_after;
-use onward::leaf_after;
-use onward::opening_after;
-use onward::row_after;
+use next_stage::Running;
+use next_stage::StageStep;
+use next_stage::gap_after;
+use next_stage::inner_after;
+use next_stage::leaf_after;
+use next_stage::opening_after;
+use next_stage::row_after;
 use state::GapBoxes;
 use state::InnerBox;
 use state::LeafBoxes;
@@ -29,7 +29,7 @@ ghost use Rattle.state.specs.declared.Stage.the-variants as stages;
 ghost use Rattle.state.specs.Ranges.{Within, openingBounds, gapBounds, leafBounds, levelsBounds, innerBounds, stageBounds};
 ghost use Rattle.state.specs.Levels.{inmost};
 ghost use Rattle.state.specs.Stages as defs;
-ghost use Rattle.onward.specs.Views.{flowing, viewStage};
+ghost use Rattle.next_stage.specs.Views.{flowing, viewStage};
 
 // A byte up to the end of the top index.
 fn opening_stage(

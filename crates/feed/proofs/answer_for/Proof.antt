@@ -1,6 +1,6 @@
 -- `feed::answer_for` meets its contract, by the definition of `answered`.
 use mathlib.Core.Path.{ap, sym}
-use Rattle.step.specs.Answers.{answered}
+use Rattle.byte.specs.Answers.{answered}
 use borrow.Author.Needs.{needs}
 use Rattle.feed.proofs.answer_for.Statement.{statement}
 use Rattle.feed.proofs.answer_for.Tie as tie

@@ -1,7 +1,7 @@
 -- `stage::entry_stage` meets its contract, by those of `read_back`, `took_entry` and `slot_byte`, and by the laws `entry-altered`, `entry-stands` and
 -- `entry-until`.
 use mathlib.Core.Path.{_∙_}
-use Rattle.onward.specs.Views.{flowing}
+use Rattle.next_stage.specs.Views.{flowing}
 use Rattle.stage.proofs.Entries.{entry-altered, entry-stands, entry-until}
 use borrow.Author.Needs.{needs}
 use Rattle.stage.proofs.entry_stage.Statement.{statement}

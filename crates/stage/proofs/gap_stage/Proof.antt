@@ -1,7 +1,7 @@
 -- `stage::gap_stage` meets its contract, by those of `gap_byte` and `gap_after`, and by the law `gap-step`.
 use mathlib.Core.Path.{ap, _∙_}
-use Rattle.onward.specs.Views.{flowing}
-use Rattle.onward.specs.Arms.{liftGap}
+use Rattle.next_stage.specs.Views.{flowing}
+use Rattle.next_stage.specs.Arms.{liftGap}
 use Rattle.stage.proofs.Steps.{gap-step}
 use borrow.Author.Needs.{needs}
 use Rattle.stage.proofs.gap_stage.Statement.{statement}

@@ -1,6 +1,6 @@
 -- `stage::leaf_stage` meets its contract, by those of `no_room`, `leaf_byte`, `row_after` and `leaf_after`, and by the law `leaf-step`.
 use mathlib.Core.Path.{refl, sym}
-use Rattle.onward.specs.Views.{flowing}
+use Rattle.next_stage.specs.Views.{flowing}
 use Rattle.stage.proofs.Steps.{leaf-step}
 use borrow.Author.Needs.{needs}
 use Rattle.stage.proofs.leaf_stage.Statement.{statement}

@@ -2,7 +2,7 @@
 use mathlib.Core.List.{[]}
 use Prim.Native.Nat.{_+_}
 use mathlib.Core.Path.{ap, _∙_}
-use Rattle.onward.specs.Arms.{liftOpening}
+use Rattle.next_stage.specs.Arms.{liftOpening}
 use Rattle.stage.proofs.Ends.{ends-in}
 use Rattle.stage.proofs.Steps.{opening-step}
 use borrow.Author.Needs.{needs}

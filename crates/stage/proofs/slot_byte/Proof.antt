@@ -1,7 +1,7 @@
 -- `stage::slot_byte` meets its contract, by those of `inner_stage` and `leaf_stage`, and by the laws `slot-inner`, `slot-leaf`, `leaf-first` and
 -- `inner-first`.
 use mathlib.Core.Path.{_∙_}
-use Rattle.onward.specs.Views.{flowing}
+use Rattle.next_stage.specs.Views.{flowing}
 use Rattle.stage.proofs.Entries.{slot-inner, slot-leaf, leaf-first, inner-first}
 use borrow.Author.Needs.{needs}
 use Rattle.stage.proofs.slot_byte.Statement.{statement}

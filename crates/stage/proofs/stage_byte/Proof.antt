@@ -1,6 +1,6 @@
 -- `stage::stage_byte` meets its contract, by those of `opening_stage`, `gap_stage`, `entry_stage`, `leaf_stage` and `inner_stage`, and by the laws of
 -- `Entries`.
-use Rattle.onward.specs.Views.{flowing}
+use Rattle.next_stage.specs.Views.{flowing}
 use Rattle.stage.proofs.Entries.{stage-as, opening-within, gap-within, entry-within, leaf-within, inner-around}
 use borrow.Author.Needs.{needs}
 use Rattle.stage.proofs.stage_byte.Statement.{statement}

@@ -1,0 +1,46 @@
+-- `cases_cuttings::reads_alike` meets its contract, by those of `read_in`, `same_end` and `both`.
+use mathlib.Core.Path.{_≡_, subst}
+use mathlib.Core.Bool.{true}
+use mathlib.Core.Logic.{_↔_}
+use Rattle.cases_trial.specs.declared.alike.End.{End}
+use Rattle.cases_cuttings.proofs.Pieces.{joined}
+use borrow.Author.Needs.{needs}
+use Rattle.cases_cuttings.proofs.reads_alike.Statement.{statement}
+use Rattle.cases_cuttings.proofs.reads_alike.Tie as tie
+
+read-in-requires : tie.Need-read-in-requires
+read-in-requires c κs = search needs
+
+same-end-requires : tie.Need-same-end-requires
+same-end-requires c κs = search needs
+
+both-requires : tie.Need-both-requires
+both-requires c κs = search needs
+
+same-length : tie.Need-same-length
+same-length c = search needs
+
+same-length-2 : tie.Need-same-length-2
+same-length-2 c = search needs
+
+returns : tie.Need-returns
+returns c =
+    let s = c .before .before .before .before .before .before .before .before .before .before .before .before .before .args in
+    let read = c .before .before .before .before .before .before .before .read-in .ensures in
+    let same = c .before .same-end in
+    record {
+      alike = joined _ _ _ (c .both .ensures) (read .answers) (subst (λ (e : End). (same .result ≡ true) ↔ (e ≡ s .end)) (read .ends) (same .ensures));
+      works = read .works;
+      tables = read .tables;
+    }
+
+pub reads-alike-spec : {M : Type 1} → statement M
+reads-alike-spec =
+    tie.close
+    (tie.spec
+    read-in-requires
+    same-end-requires
+    both-requires
+    same-length
+    same-length-2
+    returns)

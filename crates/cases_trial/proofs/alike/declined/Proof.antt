@@ -1,0 +1,30 @@
+-- `cases_trial::alike::declined` meets its contract: the answer at hand tells whether it is a refusal, and which.
+use mathlib.Core.Logic.{Iff·trans}
+use Rattle.cases_data.proofs.Alike.{never}
+use Rattle.cases_trial.proofs.Records.{declined-alike, listed-or-refused}
+use borrow.Author.Needs.{needs}
+use Rattle.cases_trial.proofs.alike.declined.Statement.{statement}
+use Rattle.cases_trial.proofs.alike.declined.Tie as tie
+
+enum-told : tie.Need-enum-told
+enum-told c = search needs
+
+enum-known-answer : tie.Need-enum-known-answer
+enum-known-answer c = search needs
+
+same-refusal-requires : tie.Need-same-refusal-requires
+same-refusal-requires c κs = search needs
+
+returns : tie.Need-returns
+returns c =
+    let s = c .before .before .args in
+    never (λ e. listed-or-refused (s .answer) _ (s .refusal) (c .enum-told .given .1) e)
+
+returns-2 : tie.Need-returns-2
+returns-2 c =
+    let s = c .before .before .before .before .args in
+    Iff·trans (c .same-refusal .ensures) (declined-alike (s .answer) _ (s .refusal) (c .before .before .answer .given .1))
+
+pub declined-spec : {M : Type 1} → statement M
+declined-spec =
+    tie.close (tie.spec enum-told enum-known-answer same-refusal-requires returns returns-2)

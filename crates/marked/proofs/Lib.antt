@@ -1,2 +1,0 @@
-pub mod Computing
-pub mod Marked

@@ -1,0 +1,57 @@
+-- `next_stage::inner_after` meets its contract, by those of `push` and `follow`, by the law `inner-goes`, and by the definition of `lift`.
+use mathlib.Core.Path.{ap, _∙_}
+use Rattle.machine.specs.Run.{lift}
+use Rattle.state.specs.declared.Levels.{Levels}
+use Rattle.state.specs.Stages as defs
+use Rattle.next_stage.specs.Views.{flowing}
+use Rattle.next_stage.proofs.Laws.{inner-goes}
+use borrow.Author.Needs.{needs}
+use Rattle.next_stage.proofs.inner_after.Statement.{statement}
+use Rattle.next_stage.proofs.inner_after.Tie as tie
+
+enum-known-q : tie.Need-enum-known-q
+enum-known-q c = search needs
+
+enum-known-q-2 : tie.Need-enum-known-q-2
+enum-known-q-2 c = search needs
+
+push-requires : tie.Need-push-requires
+push-requires c κs = search needs
+
+follow-requires : tie.Need-follow-requires
+follow-requires c κs = search needs
+
+enum-known-q-3 : tie.Need-enum-known-q-3
+enum-known-q-3 c = search needs
+
+returns : tie.Need-returns
+returns c =
+    let arm = c .before in
+    let a = arm .before .before .args in
+    λ work table. inner-goes (a .top) (a .ls) (a .slot) (a .q) (arm .q .given .0 .0) (flowing (a .r) work table) (arm .q .given .1)
+
+returns-2 : tie.Need-returns-2
+unfolding lift
+returns-2 c =
+    let at-push = c .before in
+    let arm = at-push .before .before in
+    let a = arm .before .before .args in
+    λ work table. rw (arm .q2 .given .1)
+    (c .follow .ensures (a .r .leaves) work table ∙ ap (λ (m : Levels). defs.follow (a .top) m (flowing (a .r) work table)) (at-push .push .ensures))
+
+returns-3 : tie.Need-returns-3
+unfolding lift
+returns-3 c = λ work table. rw (c .before .q3 .given .1)
+
+pub inner-after-spec : {M : Type 1} → statement M
+inner-after-spec =
+    tie.close
+    (tie.spec
+    enum-known-q
+    enum-known-q-2
+    push-requires
+    follow-requires
+    enum-known-q-3
+    returns
+    returns-2
+    returns-3)

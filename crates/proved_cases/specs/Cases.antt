@@ -1,0 +1,108 @@
+-- What a case of document 01 marked P says: of one list of bytes, what the tree, the byte definition and the descent give for it. The brand
+-- wanted is `msdh`; a work area of 49,152 bytes and a leaf table with room for 256 leaves are lent, all 0.
+use Prim.Native.Nat.{ℕ, _*_}
+use mathlib.Core.Path.{_≡_}
+use mathlib.Core.List.{List, [], _∷_, _++_}
+use mathlib.Core.Option.{Option, some, none}
+use lib.ListN.{length, replicate, drop}
+use Rattle.segment.specs.Constants.{recordNumbers}
+use Rattle.segment.specs.Tree.{Leaf, segment}
+use Rattle.machine.specs.Faults.{refusal}
+use Rattle.machine.specs.declared.Refusal.{Refusal}
+use Rattle.state.specs.Calls.{Out, out, wholeOf}
+use Rattle.state.specs.declared.State.{State}
+use Rattle.state.specs.declared.State.the-variants as state
+use Rattle.state.specs.declared.FinishAnswer.{FinishAnswer}
+use Rattle.state.specs.declared.FinishAnswer.the-variants as finishes
+use Rattle.descent.specs.Whole.{wholeD}
+use Rattle.lookup.specs.Lookup.{lookupOf}
+use Rattle.lookup.specs.Rows.{recordOf, rowsOf}
+use Rattle.lookup.specs.declared.LookupAnswer.the-variants as lookups
+use Rattle.proved_cases.specs.Segments.{msdh, sapWord, entry, S}
+
+-- what is lent
+abbrev pub work0 : List ℕ
+work0 = replicate 49152 0
+
+abbrev pub table0 : List ℕ
+table0 = replicate 1536 0
+
+-- what the tree gives
+abbrev pub byTree : List ℕ → Option (List Leaf)
+byTree bytes = segment msdh bytes
+
+-- what start, one feed of all the bytes and finish give by the byte definition, and what the descent gives
+abbrev pub byBytes : List ℕ → Out FinishAnswer
+byBytes bytes = wholeOf msdh bytes work0 table0
+
+abbrev pub byDescent : List ℕ → Out FinishAnswer
+byDescent bytes = wholeD msdh bytes work0 table0
+
+-- a leaf of 60 bytes: position, start, duration, decode time
+abbrev pub leafAt : ℕ → ℕ → ℕ → ℕ → Leaf
+leafAt position start duration time = record { position = position; size = 60; start = start; duration = duration; sap = sapWord; time = time }
+
+-- the leaf table with these leaves listed: its other numbers stay
+abbrev pub tableWith : List Leaf → List ℕ
+tableWith leaves = rowsOf leaves ++ drop (recordNumbers * length leaves) table0
+
+-- the work area once S's index was read, and once T's two were read, the top entry with its duration
+abbrev pub workS : List ℕ
+workS = entry 0 60 2000 ++ entry 0 60 3000 ++ replicate 49128 0
+
+abbrev pub workT : ℕ → List ℕ
+workT duration = entry 1 176 duration ++ replicate 12276 0 ++ entry 0 60 2000 ++ entry 0 60 3000 ++ replicate 36840 0
+
+-- after so many bytes: accepted with these leaves, reference ID 1, timescale 1000, start 5000 and durations 5000; or refused, with these
+-- leaves listed before
+abbrev pub acceptedState : ℕ → List Leaf → State
+acceptedState count leaves = state.Accepted count (length leaves) (record { id = 1; scale = 1000; start = 5000; durations = 5000 })
+
+abbrev pub accepted : ℕ → List Leaf → List ℕ → Out FinishAnswer
+accepted count leaves work = out (finishes.Listed (length leaves)) (acceptedState count leaves) work (tableWith leaves)
+
+abbrev pub refused : Refusal → ℕ → List Leaf → List ℕ → Out FinishAnswer
+refused x count leaves work = out (finishes.Refused x) (state.Refused count (length leaves) x) work (tableWith leaves)
+
+-- These bytes, so many, are accepted: the tree gives these leaves; byte definition and descent answer how many they are, and leave the
+-- accepted state, this work area, and the leaves in the table.
+pub record IsAccepted (bytes : List ℕ) (count : ℕ) (leaves : List Leaf) (work : List ℕ) : Type 0 where
+  pub counted : length bytes ≡ count
+  pub tree : byTree bytes ≡ some leaves
+  pub fed : byBytes bytes ≡ accepted count leaves work
+  pub descended : byDescent bytes ≡ accepted count leaves work
+
+-- These bytes, so many, are refused after some were read: the tree gives none; byte definition and descent answer this refusal, and leave
+-- its state, this work area, and the leaves before it in the table.
+pub record IsRefused (bytes : List ℕ) (count : ℕ) (x : Refusal) (read : ℕ) (leaves : List Leaf) (work : List ℕ) : Type 0 where
+  pub counted : length bytes ≡ count
+  pub tree : byTree bytes ≡ none
+  pub fed : byBytes bytes ≡ refused x read leaves work
+  pub descended : byDescent bytes ≡ refused x read leaves work
+
+-- the leaves of S
+abbrev pub firstOfS : Leaf
+firstOfS = leafAt 76 5000 2000 100
+
+abbrev pub secondOfS : Leaf
+secondOfS = leafAt 136 7000 3000 2100
+
+abbrev pub leavesOfS : List Leaf
+leavesOfS = firstOfS ∷ secondOfS ∷ []
+
+-- "lookup in S: 4999 gives 23; 5000 and 6999 leaf 1; 7000 and 9999 leaf 2; 10000 gives 24", with a state and a leaf table
+pub record LookedUp (s : State) (table : List ℕ) : Type 0 where
+  pub at-4999 : lookupOf s table 4999 ≡ lookups.Refused (refusal 23 0)
+  pub at-5000 : lookupOf s table 5000 ≡ lookups.Found 1 (recordOf firstOfS)
+  pub at-6999 : lookupOf s table 6999 ≡ lookups.Found 1 (recordOf firstOfS)
+  pub at-7000 : lookupOf s table 7000 ≡ lookups.Found 2 (recordOf secondOfS)
+  pub at-9999 : lookupOf s table 9999 ≡ lookups.Found 2 (recordOf secondOfS)
+  pub at-10000 : lookupOf s table 10000 ≡ lookups.Refused (refusal 24 0)
+
+-- S is accepted, and looked up with the state that is left: in the table that is left, and in any that starts with S's records, one of
+-- nothing but these twelve numbers too.
+pub record LookupInS : Type 0 where
+  pub accepts : IsAccepted S 196 leavesOfS workS
+  pub records : rowsOf leavesOfS ≡ 76 ∷ 60 ∷ 5000 ∷ 2000 ∷ 2415919104 ∷ 100 ∷ 136 ∷ 60 ∷ 7000 ∷ 3000 ∷ 2415919104 ∷ 2100 ∷ []
+  pub in-left : LookedUp (byBytes S .state) (byBytes S .table)
+  pub in-any : (behind : List ℕ) → LookedUp (byBytes S .state) (rowsOf leavesOfS ++ behind)

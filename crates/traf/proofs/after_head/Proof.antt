@@ -1,0 +1,79 @@
+-- `traf::after_head` meets its contract, by those of `refused_head`, `worse` and `after_header`, and by the definition of `lift`.
+use mathlib.Core.Path.{ap, sym, _∙_}
+use Rattle.machine.specs.Faults.{lowest}
+use Rattle.machine.specs.Run.{bad, lift}
+use Rattle.machine.specs.declared.Refusal.{Refusal}
+use Rattle.header.specs.Views.{viewHead, refusalHead}
+use Rattle.header.specs.declared.HeadStep.{HeadStep}
+use Rattle.header.specs.declared.HeadStep.the-variants as heads
+use Rattle.state.specs.Flow.{left}
+use Rattle.traf.specs.Views.{afterHead, besideTraf}
+use borrow.Author.Needs.{needs}
+use Rattle.traf.proofs.after_head.Statement.{statement}
+use Rattle.traf.proofs.after_head.Tie as tie
+
+enum-known-r : tie.Need-enum-known-r
+enum-known-r c = search needs
+
+enum-told : tie.Need-enum-told
+enum-told c = search needs
+
+refused-head-requires : tie.Need-refused-head-requires
+refused-head-requires c κs = search needs
+
+worse-requires : tie.Need-worse-requires
+worse-requires c κs = search needs
+
+returns : tie.Need-returns
+unfolding lift
+returns c =
+    let at-refused-head = c .before in
+    let told = at-refused-head .before in
+    let a = told .before .before .args in
+    let e = told .enum-told .given .1 in
+    λ id f. ap (λ (x : Refusal). bad x (left f))
+    (c .worse .ensures ∙ ap (λ (x : Refusal). lowest x (besideTraf (a .span) (a .so .track) (a .n))) (at-refused-head .refused-head .ensures ∙ ap refusalHead e))
+    ∙ sym (ap (λ (q : HeadStep). afterHead id (a .span) (a .so) (a .n) (viewHead f q)) e)
+
+enum-known-head : tie.Need-enum-known-head
+enum-known-head c = search needs
+
+enum-known-head-2 : tie.Need-enum-known-head-2
+enum-known-head-2 c = search needs
+
+after-header-requires : tie.Need-after-header-requires
+after-header-requires c κs = search needs
+
+returns-2 : tie.Need-returns-2
+unfolding lift
+returns-2 c =
+    let arm-head = c .before in
+    let arm-r = arm-head .before .before .before in
+    let a = arm-r .before .before .args in
+    let e = arm-r .r .given .1 ∙ ap heads.Taken (arm-head .head .given .1) in
+    λ id f. sym (ap (λ (q : HeadStep). afterHead id (a .span) (a .so) (a .n) (viewHead f q)) e)
+
+returns-3 : tie.Need-returns-3
+unfolding lift
+returns-3 c =
+    let arm-head2 = c .before .before in
+    let arm-r = arm-head2 .before .before .before in
+    let a = arm-r .before .before .args in
+    let e = arm-r .r .given .1 ∙ ap heads.Taken (arm-head2 .head2 .given .1) in
+    λ id f. c .after-header .ensures id f
+    ∙ sym (ap (λ (q : HeadStep). afterHead id (a .span) (a .so) (a .n) (viewHead f q)) e)
+
+pub after-head-spec : {M : Type 1} → statement M
+after-head-spec =
+    tie.close
+    (tie.spec
+    enum-known-r
+    enum-told
+    refused-head-requires
+    worse-requires
+    returns
+    enum-known-head
+    enum-known-head-2
+    after-header-requires
+    returns-2
+    returns-3)

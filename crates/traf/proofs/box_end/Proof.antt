@@ -1,0 +1,67 @@
+-- `traf::box_end` meets its contract, by those of `go_on` and `time_end`, and by the definitions of `trafNow` and `fallFaults`.
+use mathlib.Core.Path.{ap, sym, _∙_}
+use Rattle.machine.specs.Lists.{goOn}
+use Rattle.state.specs.Traf.{trafNow, fallFaults, trafNext, trafBoxes, wrapTraf}
+use Rattle.traf.specs.Views.{gaveOf}
+use Rattle.traf.specs.declared.Given.{Given}
+use borrow.Author.Needs.{needs}
+use Rattle.traf.proofs.box_end.Statement.{statement}
+use Rattle.traf.proofs.box_end.Tie as tie
+
+enum-told : tie.Need-enum-told
+enum-told c = search needs
+
+go-on-requires : tie.Need-go-on-requires
+go-on-requires c κs = search needs
+
+enum-known-g : tie.Need-enum-known-g
+enum-known-g c = search needs
+
+go-on-requires-2 : tie.Need-go-on-requires-2
+go-on-requires-2 c κs = search needs
+
+enum-known-g-2 : tie.Need-enum-known-g-2
+enum-known-g-2 c = search needs
+
+time-end-requires : tie.Need-time-end-requires
+time-end-requires c κs = search needs
+
+returns : tie.Need-returns
+unfolding trafNow fallFaults
+returns c =
+    let told = c .before in
+    let a = told .before .before .args in
+    λ id f. c .go-on .ensures id f
+    ∙ sym
+    (ap (λ (g : Given). goOn (trafBoxes id (a .span)) wrapTraf (trafNext (a .span) (trafNow (a .so) (gaveOf g)) (fallFaults (a .so .seen .last) (gaveOf g)) (a .n)) f) (told .enum-told .given .1))
+
+returns-2 : tie.Need-returns-2
+unfolding trafNow fallFaults
+returns-2 c =
+    let arm = c .before .before .before in
+    let a = arm .before .before .args in
+    λ id f. c .go-on2 .ensures id f
+    ∙ sym
+    (ap (λ (g : Given). goOn (trafBoxes id (a .span)) wrapTraf (trafNext (a .span) (trafNow (a .so) (gaveOf g)) (fallFaults (a .so .seen .last) (gaveOf g)) (a .n)) f) (arm .g .given .1))
+
+returns-3 : tie.Need-returns-3
+returns-3 c =
+    let arm = c .before .before in
+    let a = arm .before .before .args in
+    λ id f. c .time-end .ensures id f
+    ∙ sym
+    (ap (λ (g : Given). goOn (trafBoxes id (a .span)) wrapTraf (trafNext (a .span) (trafNow (a .so) (gaveOf g)) (fallFaults (a .so .seen .last) (gaveOf g)) (a .n)) f) (arm .g2 .given .1))
+
+pub box-end-spec : {M : Type 1} → statement M
+box-end-spec =
+    tie.close
+    (tie.spec
+    enum-told
+    go-on-requires
+    enum-known-g
+    go-on-requires-2
+    enum-known-g-2
+    time-end-requires
+    returns
+    returns-2
+    returns-3)

@@ -1,0 +1,44 @@
+-- `traf::field_byte` meets its contract, by those of `spelled` and `field_end`, and by the laws `field-last`, `field-more` and `field-small`.
+use Prim.Native.Nat.{ℕ, _+_, _-_}
+use mathlib.Core.Path.{ap, sym, _∙_}
+use Rattle.machine.specs.Run.{go}
+use Rattle.state.specs.Traf.{trafEnds}
+use Rattle.state.specs.declared.TrafBody.the-variants as body
+use Rattle.traf.proofs.Laws.{field-last, field-more, field-small}
+use borrow.Author.Needs.{needs}
+use Rattle.traf.proofs.field_byte.Statement.{statement}
+use Rattle.traf.proofs.field_byte.Tie as tie
+
+spelled-requires : tie.Need-spelled-requires
+spelled-requires c κs =
+    let a = c .args in
+    field-small (a .p) (a .more) (a .acc) (c .pre .1)
+
+add-field-end : tie.Need-add-field-end
+add-field-end c = search needs
+
+field-end-requires : tie.Need-field-end-requires
+field-end-requires c κs = search needs
+
+returns : tie.Need-returns
+returns c =
+    let test = c .before in
+    let spelt = test .before in
+    let a = spelt .before .args in
+    λ f. c .field-end .ensures f
+    ∙ ap (λ (v : ℕ). trafEnds (a .id) (a .t) (a .p) v f (a .n + 1)) (spelt .spelled .ensures)
+    ∙ sym (field-last (a .id) (a .t) (a .p) f (a .n) (a .b) (a .more) (a .acc) (test .if1 .taken))
+
+sub-t11 : tie.Need-sub-t11
+sub-t11 c = search needs
+
+returns-2 : tie.Need-returns-2
+returns-2 c =
+    let a = c .before .before .args in
+    λ f. ap (λ (v : ℕ). go (body.Field (a .p) (a .more - 1) v) f) (c .before .spelled .ensures)
+    ∙ sym (field-more (a .id) (a .t) (a .p) f (a .n) (a .b) (a .more) (a .acc) (c .if1 .left))
+
+pub field-byte-spec : {M : Type 1} → statement M
+field-byte-spec =
+    tie.close
+    (tie.spec spelled-requires add-field-end field-end-requires returns sub-t11 returns-2)

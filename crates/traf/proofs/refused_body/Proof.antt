@@ -1,0 +1,21 @@
+-- `traf::refused_body` meets its contract, by the case that was matched.
+use mathlib.Core.Path.{ap, sym}
+use Rattle.traf.specs.Views.{refusalBody}
+use borrow.Author.Needs.{needs}
+use Rattle.traf.proofs.refused_body.Statement.{statement}
+use Rattle.traf.proofs.refused_body.Tie as tie
+
+enum-told : tie.Need-enum-told
+enum-told c = search needs
+
+enum-known-r : tie.Need-enum-known-r
+enum-known-r c = search needs
+
+returns : tie.Need-returns
+returns c = sym (ap refusalBody (c .enum-told .given .1))
+
+returns-2 : tie.Need-returns-2
+returns-2 c = sym (ap refusalBody (c .before .r .given .1))
+
+pub refused-body-spec : {M : Type 1} → statement M
+refused-body-spec = tie.close (tie.spec enum-told enum-known-r returns returns-2)
