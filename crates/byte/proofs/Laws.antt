@@ -11,7 +11,8 @@ use types.Run.{OneOf}
 use denote.Enum.Declared.{tagOf}
 use lib.ListN.{set}
 use Rattle.basics.specs.Choose.{pick}
-use Rattle.segment.specs.Constants.{limit, workBytes, mostRecords}
+use Rattle.segment.specs.Constants.{limit}
+use Rattle.table.specs.Table.{mostRecords}
 use Rattle.machine.specs.Faults.{refusal, shows, unless, lowest}
 use Rattle.machine.specs.declared.Refusal.{Refusal}
 use Rattle.state.specs.declared.Stage.{Stage}
@@ -22,11 +23,12 @@ use Rattle.state.specs.declared.Top.{Top}
 use Rattle.state.specs.declared.State.{State}
 use Rattle.state.specs.declared.State.the-variants as state
 use Rattle.state.specs.declared.FeedAnswer.{FeedAnswer}
-use Rattle.state.specs.Flow.{Flow, putAll}
+use Rattle.state.specs.Flow.{Flow, workBytes}
+use Rattle.basics.specs.Put.{putAll}
 use Rattle.state.specs.Stages.{stepStage}
 use Rattle.state.specs.Levels.{inmost, entryAt, entryPlace}
 use Rattle.state.specs.Places.{stageByte, storedAt}
-use Rattle.state.specs.Step.{reading, settle, entryShows, overLimit, step, run}
+use Rattle.state.specs.Step.{settle, entryShows, overLimit, step, run}
 use Rattle.state.specs.Numbers.{stageNumber, putIn, Short}
 use Rattle.state.specs.Calls.{Out, out, flowOf, stateOf, workOf, tableOf, answerOf, fed, feedState}
 use Rattle.state.specs.Ranges.{atMost, below, Within, topBounds, levelsBounds, stageBounds, bounds, InRange}

@@ -1,17 +1,16 @@
 // What is printed of an answer. The text of a listing is that of the crate `listing`, its lines joined by `/`.
 use cases_data::text::part;
+use covering::LookupAnswer;
 use libc::STDOUT_FILENO;
 use listing::Line;
 use listing::heading;
 use listing::leaf_line;
 use listing::refused_line;
 use listing::table_line;
-use lookup::LookupAnswer;
-use lookup::Record;
 use machine::Refusal;
 use state::FeedAnswer;
 use state::FinishAnswer;
-use state::NUMBERS;
+use table::NUMBERS;
 
 pub fn print(text: &[u8]) {
     io::write_all(STDOUT_FILENO, text);
@@ -82,13 +81,9 @@ pub fn print_found(answer: LookupAnswer) {
     print(b" ");
     match answer {
         LookupAnswer::Found(leaf, r) => {
-            print_line(leaf_line(leaf, numbers_of(r)));
+            print_line(leaf_line(leaf, r));
         }
         LookupAnswer::Refused(refusal) => print_refusal(refusal),
     }
     print(b";");
-}
-
-fn numbers_of(r: Record) -> [u64; 6] {
-    [r.position, r.size, r.start, r.duration, r.sap, r.time]
 }

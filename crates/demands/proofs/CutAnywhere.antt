@@ -10,7 +10,7 @@ use native.Mathlib.Omega.{arith}
 use lib.ListN.{length}
 use Rattle.basics.specs.Bytes.{AllBytes}
 use Rattle.basics.proofs.Picks.{lt-or-ge}
-use Rattle.segment.specs.Constants.{workBytes}
+use Rattle.state.specs.Flow.{workBytes}
 use Rattle.segment.specs.Tree.{Leaf, segment}
 use Rattle.segment.specs.Parts.{Belongs}
 use Rattle.segment.proofs.Belongs.{belongs}
@@ -19,7 +19,7 @@ use Rattle.state.specs.declared.State.the-variants as state
 use Rattle.state.specs.declared.FeedAnswer.the-variants as feeds
 use Rattle.state.specs.declared.FinishAnswer.{FinishAnswer}
 use Rattle.state.specs.declared.FinishAnswer.the-variants as finishes
-use Rattle.state.specs.Flow.{room}
+use Rattle.table.specs.Table.{room}
 use Rattle.state.specs.Step.{World, reading, ended, refused, run, stage0, flow0}
 use Rattle.state.specs.Ranges.{inRange}
 use Rattle.state.specs.Calls.{Out, out, stateOf, workOf, tableOf, answerOf, fed, startOf, feedState, feedOf, finishState, finishAfter, wholeOf}

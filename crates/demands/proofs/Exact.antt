@@ -14,7 +14,7 @@ use Rattle.basics.specs.Choose.{pick}
 use Rattle.basics.specs.Bytes.{AllBytes}
 use Rattle.basics.proofs.Picks.{lt-or-ge, pick-no, pick-holds}
 use Rattle.basics.proofs.Options.{pick-else}
-use Rattle.segment.specs.Constants.{limit, workBytes, recordNumbers, mostRecords}
+use Rattle.segment.specs.Constants.{limit}
 use Rattle.segment.specs.Boxes.{durations}
 use Rattle.segment.specs.Tree.{Leaf, Opened, covers, topIndex, segment}
 use Rattle.segment.specs.Parts.{At, One}
@@ -27,17 +27,19 @@ use Rattle.state.specs.declared.FeedAnswer.{FeedAnswer}
 use Rattle.state.specs.declared.FeedAnswer.the-variants as feeds
 use Rattle.state.specs.declared.FinishAnswer.{FinishAnswer}
 use Rattle.state.specs.declared.FinishAnswer.the-variants as finishes
-use Rattle.state.specs.Flow.{Flow, Left, room, putAll}
+use Rattle.state.specs.Flow.{Flow, Left, workBytes}
+use Rattle.table.specs.Table.{room, recordNumbers, mostRecords}
+use Rattle.basics.specs.Put.{putAll}
 use Rattle.state.specs.Ranges.{inRange, InRange}
 use Rattle.state.specs.Calls.{Out, startOf, feedOf, finishAfter, wholeOf}
 use Rattle.state.proofs.RangeTests.{in-range}
 use Rattle.state.proofs.Ranges.{start-in-range, feed-in-range, finish-in-range}
 use Rattle.descent.specs.Whole.{outcome, readD, wholeD}
-use Rattle.lookup.specs.declared.LookupAnswer.the-variants as answer
-use Rattle.lookup.specs.Rows.{recordOf, rowsOf}
-use Rattle.lookup.specs.Lookup.{lookIn, lookupOf}
-use Rattle.lookup.proofs.Listed.{NoLeafCovers, lookup-refuses}
-use Rattle.lookup.proofs.TheLeaf.{segment-found, segment-before, segment-past, rows-length, lookup-listed}
+use Rattle.covering.specs.declared.LookupAnswer.the-variants as answer
+use Rattle.covering.specs.Records.{recordOf, recordsOf, NoLeafCovers}
+use Rattle.covering.specs.Lookup.{lookIn, lookupOf}
+use Rattle.covering.proofs.Listed.{lookup-refuses}
+use Rattle.covering.proofs.TheLeaf.{segment-found, segment-before, segment-past, rows-length, lookup-listed}
 use Rattle.demands.specs.Verdict.{Verdict, wrong, full, fine, told, Meets, Listing, seat, verdictBy, verdictOf}
 use Rattle.demands.specs.Demands.{stated, Accepts, BeginsWith}
 use Rattle.demands.proofs.Stored.{put-between}
@@ -128,11 +130,11 @@ module _ (brand : ℕ) (bytes work table : List ℕ) (all : AllBytes bytes) (lon
       (top, opened, there ∙ accepted-alike n (length bytes) (f .leaves) k says (stated (top .index)) count leaves is-top)
 
   -- the rows of leaves at the front of the table
-  rows-front : (ls : List Leaf) → length ls ≤ room table → putAll table (recordNumbers * 0) (rowsOf ls) ≡ rowsOf ls ++ drop (recordNumbers * length ls) table
+  rows-front : (ls : List Leaf) → length ls ≤ room table → putAll table (recordNumbers * 0) (recordsOf ls) ≡ recordsOf ls ++ drop (recordNumbers * length ls) table
   rows-front ls fits =
-      let rows : length (rowsOf ls) ≡ recordNumbers * length ls = rows-length ls in
-      let q : 0 + length (rowsOf ls) ≡ recordNumbers * length ls = omega arith in
-      put-between table 0 (rowsOf ls) (omega (arith, room-fits table)) ∙ ap (λ (k : ℕ). rowsOf ls ++ drop k table) q
+      let rows : length (recordsOf ls) ≡ recordNumbers * length ls = rows-length ls in
+      let q : 0 + length (recordsOf ls) ≡ recordNumbers * length ls = omega arith in
+      put-between table 0 (recordsOf ls) (omega (arith, room-fits table)) ∙ ap (λ (k : ℕ). recordsOf ls ++ drop k table) q
 
   seated : (ls : List Leaf) → segment brand bytes ≡ some ls → Meets (verdictOf o) (seat ls 0 table)
   unfolding told
@@ -141,7 +143,7 @@ module _ (brand : ℕ) (bytes work table : List ℕ) (all : AllBytes bytes) (lon
   -- A segment of the tree whose leaves the table has room for is accepted with them.
   pub accepts : (ls : List Leaf) → segment brand bytes ≡ some ls → length ls ≤ room table → Accepts brand bytes table ls o
   accepts ls e fits =
-      let l : Listing = record { leaves = 0 + length ls; table = putAll table (recordNumbers * 0) (rowsOf ls) } in
+      let l : Listing = record { leaves = 0 + length ls; table = putAll table (recordNumbers * 0) (recordsOf ls) } in
       let v = verdict-fine (o .answer) (o .table) l (meets-fine (verdictOf o) (seat ls 0 table) l (seated ls e) (seat-fits ls 0 table (omega arith))) in
       let q : 0 + length ls ≡ length ls = omega arith in
       let a : o .answer ≡ finishes.Listed (length ls) = v .0 ∙ ap (λ (k : ℕ). finishes.Listed k) q in
@@ -213,7 +215,7 @@ module _ (brand : ℕ) (bytes work table : List ℕ) (all : AllBytes bytes) (lon
     behind : List ℕ
     behind = begins .0
 
-    look : lookupOf (o .state) lent t ≡ lookIn (length ls) (rowsOf ls ++ behind) t
+    look : lookupOf (o .state) lent t ≡ lookIn (length ls) (recordsOf ls ++ behind) t
     unfolding behind
     look =
         let a : Accepts brand bytes table ls o = accepts ls e fits in

@@ -12,7 +12,7 @@ use borrow.Author.Tests.{ne-eqb, eqb-true, ltb-true, ltb-false, lt-leb}
 use Rattle.basics.specs.Choose.{pick, andThen}
 use Rattle.basics.proofs.Tests.{same-test}
 use Rattle.basics.proofs.Options.{then-cong, then-assoc, then-pick}
-use Rattle.segment.specs.Constants.{workBytes, levelBytes, entryBytes, styp, sidx, levels as mostLevels}
+use Rattle.segment.specs.Constants.{entryBytes, styp, sidx, levels as mostLevels}
 use Rattle.segment.specs.Boxes as tree
 use Rattle.segment.specs.Boxes.{Box, firstBox, sidxIndex, sizes, durations}
 use Rattle.segment.specs.Tree as tree'
@@ -27,7 +27,8 @@ use Rattle.state.specs.declared.Span.{Span}
 use Rattle.state.specs.declared.Level.{Level}
 use Rattle.state.specs.declared.Slot.{Slot}
 use Rattle.state.specs.declared.Index.{Index}
-use Rattle.state.specs.Flow.{Flow, Left, withNow, putAll}
+use Rattle.state.specs.Flow.{Flow, Left, withNow, workBytes, levelBytes}
+use Rattle.basics.specs.Put.{putAll}
 use Rattle.state.specs.Rows.{is, bodyLength, topLengths, innerFaults}
 use Rattle.state.specs.Opening.{spanOf}
 use Rattle.state.specs.Sidx.{under, partOf}

@@ -11,7 +11,7 @@ use lib.ListN.{length, take, drop}
 use Rattle.basics.specs.Choose.{pick}
 use Rattle.basics.specs.Bytes.{AllBytes}
 use Rattle.basics.proofs.Picks.{lt-or-ge, pick-yes, pick-no}
-use Rattle.segment.specs.Constants.{limit, workBytes}
+use Rattle.segment.specs.Constants.{limit}
 use Rattle.machine.specs.Faults.{shows, refusal, unless, lowest}
 use Rattle.machine.specs.Run.{Sub, go, done, bad, Res, contBy, cont}
 use Rattle.machine.specs.Run.{run as runs}
@@ -25,7 +25,7 @@ use Rattle.state.specs.declared.FeedAnswer.{FeedAnswer}
 use Rattle.state.specs.declared.FeedAnswer.the-variants as feeds
 use Rattle.state.specs.declared.FinishAnswer.{FinishAnswer}
 use Rattle.state.specs.declared.FinishAnswer.the-variants as finishes
-use Rattle.state.specs.Flow.{Flow, Left, left}
+use Rattle.state.specs.Flow.{Flow, Left, left, workBytes}
 use Rattle.state.specs.Stages.{stepStage}
 use Rattle.state.specs.Step.{World, reading, ended, refused, settle, pastLimit, overLimit, leftOver, pastMaterial, step, run, stage0, flow0}
 use Rattle.state.specs.Ranges.{inRange}

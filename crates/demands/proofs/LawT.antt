@@ -1,53 +1,51 @@
 -- Law T: the descent comes to what the tree says: it accepts exactly the tree's segments whose leaves the table has room for, and lists
 -- exactly their leaves; where the room ends before the leaves do, it refuses the first leaf beyond with 15.
-use Prim.Native.Nat.{ℕ, zero, suc, _+_, _-_, _*_, _≤_, _<_}
+use Prim.Native.Nat.{ℕ, _+_, _-_, _*_, _≤_, _<_}
 use mathlib.Core.Path.{_≡_, refl, ap, sym, subst, _∙_}
-use mathlib.Core.Logic.{_≢_, _⊎_, inl, inr, ⊎-elim}
+use mathlib.Core.Logic.{_≢_, _⊎_, ⊎-elim}
 use mathlib.Core.List.{List, [], _∷_, _++_, map, append-nil}
 use mathlib.Core.Option.{Option, some, none}
-use mathlib.Core.Bool.{Bool, true, false, not, true≢false, false≢true, _&&_, _||_}
+use mathlib.Core.Bool.{Bool, true, false, not, _||_}
 use native.Mathlib.Omega.{arith}
 use lib.Dec.{eqb, ltb, leb}
 use lib.ListN.{length, take, drop, replicate, take-append-drop, length-drop, length-append, length-replicate, drop-of-length-le}
 use lib.Seq.{length-take-le, take-all}
-use borrow.Author.Tests.{eq-eqb, ne-eqb, lt-ltb, le-ltb, ltb-true, ltb-false, leb-true, leb-false, le-leb, lt-leb}
+use borrow.Author.Tests.{eq-eqb, ne-eqb, lt-ltb, le-ltb, ltb-true, leb-true, leb-false}
 use Rattle.basics.specs.Choose.{pick, andThen}
 use Rattle.basics.proofs.Picks.{lt-or-ge, pick-yes, pick-no}
-use Rattle.basics.proofs.Tests.{or-neither}
-use Rattle.segment.specs.Constants.{limit, timeLimit, workBytes, levelBytes, entryBytes}
+use Rattle.segment.specs.Constants.{limit, timeLimit, entryBytes}
 use Rattle.segment.specs.Boxes as tree
 use Rattle.segment.specs.Boxes.{sizes, durations}
 use Rattle.segment.specs.Leaves.{neverFall}
 use Rattle.segment.specs.Tree.{Leaf, Item, Opened, topIndex, gapBoxes, material, tile, underIndex, allTimes, leafOf, segment}
 use Rattle.machine.specs.Faults.{shows, refusal, lowest}
-use Rattle.machine.specs.Run.{Res, okay, fail, cut, either, after, cont}
+use Rattle.machine.specs.Run.{Res, okay, fail, cut, either, after}
 use Rattle.machine.specs.Limit.{beyond}
 use Rattle.machine.specs.declared.Refusal.{Refusal}
 use Rattle.machine.proofs.Limits.{beyond-none}
-use Rattle.machine.proofs.Runs.{consumed, okay-more}
+use Rattle.machine.proofs.Runs.{okay-more}
 use Rattle.state.specs.declared.Top.{Top}
 use Rattle.state.specs.declared.Level.{Level}
 use Rattle.state.specs.declared.Levels.the-variants as levels
 use Rattle.state.specs.declared.Index.{Index}
-use Rattle.state.specs.declared.FinishAnswer.{FinishAnswer}
 use Rattle.state.specs.declared.FinishAnswer.the-variants as finishes
-use Rattle.state.specs.Flow.{Flow, Left, left, withNow, putAll}
-use Rattle.state.specs.Sidx.{topmost, partOf, sumFaults}
+use Rattle.state.specs.Flow.{Flow, Left, left, withNow, workBytes, levelBytes}
+use Rattle.basics.specs.Put.{putAll}
+use Rattle.state.specs.Sidx.{topmost, partOf}
 use Rattle.state.specs.Stages.{follow, topOf, topLevel, stepStage}
-use Rattle.state.specs.Step.{pastLimit, pastMaterial, flow0}
-use Rattle.state.specs.Calls.{Out}
+use Rattle.state.specs.Step.{pastMaterial, flow0}
 use Rattle.descent.specs.Opening.{openingD}
-use Rattle.descent.specs.Whole.{gapD, entriesD, underD, materialD, segmentD, outcome, readD, wholeD}
-use Rattle.demands.specs.Told.{upon, clean, indexFrom, entryPart, withEntries}
+use Rattle.descent.specs.Whole.{gapD, underD, materialD, segmentD, outcome, readD, wholeD}
+use Rattle.demands.specs.Told.{indexFrom, entryPart, withEntries}
 use Rattle.demands.specs.Verdict.{Verdict, wrong, full, fine, judge, told, enlist, NotFine, Meets, Listing, seat, verdictBy, verdictOf}
-use Rattle.demands.proofs.Verdicts.{meets-same, meets-equal, meets-trans, judge-after, judge-cong, judge-not, judge-upon, told-then, told-cong, told-meets, told-not, enlist-not, pick-not}
+use Rattle.demands.proofs.Verdicts.{meets-equal, meets-trans, judge-after, judge-cong, judge-not, judge-upon, told-then, told-cong, told-meets, told-not, enlist-not, pick-not}
 use Rattle.demands.proofs.SegmentRun.{S, gap-consumed, top-run}
-use Rattle.demands.proofs.Stored.{Alike, alike-refl, put-length, holds}
+use Rattle.demands.proofs.Stored.{put-length, holds}
 use Rattle.demands.proofs.SidxTree.{SidxFacts, sidx-facts}
-use Rattle.demands.proofs.TileTree.{Like, Goes, Follows, Stands, tile-meets}
+use Rattle.demands.proofs.TileTree.{Like, Goes, Follows, tile-meets}
 use Rattle.demands.proofs.InnerTree.{at-level}
 use Rattle.demands.proofs.GapTree.{gap-tree, gap-ends, gap-numbers}
-use Rattle.demands.proofs.OpeningTree.{atTop, topEnd, topSpan, topBody, Topped, topped, opening-tree, top-sums}
+use Rattle.demands.proofs.OpeningTree.{atTop, topEnd, topSpan, topBody, topped, opening-tree, top-sums}
 use Rattle.demands.proofs.OpeningNumbers.{opening-numbers}
 use Rattle.demands.proofs.Seats.{listing, enlist-seat, enlist-falls}
 

@@ -1,27 +1,27 @@
 -- Leaves listed one after the other, whose decode times never fall, come to what their list comes to.
 use Prim.Native.Nat.{ℕ, zero, suc, _+_, _*_, _≤_}
-use mathlib.Core.Path.{_≡_, refl, ap, sym, _∙_}
-use mathlib.Core.Logic.{_⊎_, inl, inr, ⊎-elim}
+use mathlib.Core.Path.{_≡_, refl, ap, _∙_}
 use mathlib.Core.List.{List, [], _∷_, _++_, map}
-use mathlib.Core.Option.{Option, some, none}
+use mathlib.Core.Option.{some, none}
 use mathlib.Core.Bool.{Bool, true, false, true≢false, false≢true}
 use native.Mathlib.Omega.{arith}
 use lib.Dec.{ltb}
 use lib.ListN.{length}
 use borrow.Author.Tests.{le-leb, lt-leb}
-use Rattle.segment.specs.Constants.{recordNumbers}
 use Rattle.segment.specs.Parts.{At}
 use Rattle.basics.specs.Choose.{pick}
 use Rattle.basics.proofs.Options.{absurd-some}
 use Rattle.segment.specs.Leaves.{neverFall}
 use Rattle.segment.specs.Tree.{Leaf, Item, allTimes, leafOf}
 use Rattle.state.specs.declared.Seen.{Seen}
-use Rattle.state.specs.Flow.{Flow, room, putAll, listed}
+use Rattle.state.specs.Flow.{Flow, listed}
+use Rattle.table.specs.Table.{room, recordNumbers, numbersOf, putRecord}
+use Rattle.basics.specs.Put.{putAll}
 use Rattle.state.specs.Rows.{noRoom}
 use Rattle.state.specs.Traf.{saw}
 use Rattle.demands.specs.Told.{climb}
-use Rattle.lookup.specs.Rows.{rowOf, rowsOf}
-use Rattle.demands.specs.Verdict.{Verdict, wrong, full, fine, told, seen0, enlist, NotFine, Listing, seat}
+use Rattle.covering.specs.Records.{recordOf, recordsOf}
+use Rattle.demands.specs.Verdict.{Verdict, full, fine, told, seen0, enlist, NotFine, Listing, seat}
 use Rattle.demands.proofs.Stored.{put-length, put-more}
 use Rattle.demands.proofs.Verdicts.{pick-not, told-not}
 
@@ -61,7 +61,7 @@ enlist-seat [] f e = refl
 enlist-seat (i ∷ is) f e =
     let c = climb-on (seen0 (f .last)) (i .times) (allTimes is) e in
     ap (pick (noRoom (f .leaves) (f .table)) (full (i .leaf .position)))
-    (rw (c .climbed) (enlist-seat is (listed f (rowOf (i .leaf)) (i .leaf .start + i .leaf .duration) (c .top .last)) (c .rest)))
+    (rw (c .climbed) (enlist-seat is (listed f (recordOf (i .leaf)) (i .leaf .start + i .leaf .duration) (c .top .last)) (c .rest)))
 
 pub enlist-falls : {X : Type 0} (is : List Item) (f : Flow) (k : Flow → Verdict X) → neverFall (f .last) (allTimes is) ≡ false → NotFine (enlist is f k)
 unfolding enlist allTimes neverFall listed
@@ -69,7 +69,7 @@ enlist-falls [] f k e = absurd (true≢false e)
 enlist-falls (i ∷ is) f k e =
     pick-not (noRoom (f .leaves) (f .table)) (full (i .leaf .position)) _ tt
     (told-not (climb (seen0 (f .last)) (i .times)) _
-    (λ s c. enlist-falls is (listed f (rowOf (i .leaf)) (i .leaf .start + i .leaf .duration) (s .last)) k (climb-off (seen0 (f .last)) (i .times) (allTimes is) e s c)))
+    (λ s c. enlist-falls is (listed f (recordOf (i .leaf)) (i .leaf .start + i .leaf .duration) (s .last)) k (climb-off (seen0 (f .last)) (i .times) (allTimes is) e s c)))
 
 -- The room is a table's length, which no record changes.
 room-put : (table : List ℕ) (i : ℕ) (xs : List ℕ) → room (putAll table i xs) ≡ room table
@@ -77,16 +77,16 @@ unfolding room
 room-put table i xs = rw (put-length table i xs)
 
 -- leaves that the table has room for
-pub seat-fits : (ls : List Leaf) (n : ℕ) (table : List ℕ) → n + length ls ≤ room table → seat ls n table ≡ fine (record { leaves = n + length ls; table = putAll table (recordNumbers * n) (rowsOf ls) })
-unfolding seat putAll rowsOf pick
+pub seat-fits : (ls : List Leaf) (n : ℕ) (table : List ℕ) → n + length ls ≤ room table → seat ls n table ≡ fine (record { leaves = n + length ls; table = putAll table (recordNumbers * n) (recordsOf ls) })
+unfolding seat putAll recordsOf pick
 seat-fits [] n table h = let q : n + 0 ≡ n = omega arith in rw q
 seat-fits (l ∷ ls) n table h =
-    let next : List ℕ = putAll table (recordNumbers * n) (rowOf l) in
+    let next : List ℕ = putRecord table n (recordOf l) in
     let q : n + suc (length ls) ≡ suc n + length ls = omega arith in
-    let r : recordNumbers * suc n ≡ recordNumbers * n + length (rowOf l) = omega arith in
+    let r : recordNumbers * suc n ≡ recordNumbers * n + length (numbersOf (recordOf l)) = omega arith in
     rw (lt-leb (room table) n (omega arith), q)
-    (seat-fits ls (suc n) next (rw (room-put table (recordNumbers * n) (rowOf l)) (omega arith))
-    ∙ ap (λ (t : List ℕ). fine (record { leaves = suc n + length ls; table = t })) (ap (λ (k : ℕ). putAll next k (rowsOf ls)) r ∙ put-more table (recordNumbers * n) (rowOf l) (rowsOf ls)))
+    (seat-fits ls (suc n) next (rw (room-put table (recordNumbers * n) (numbersOf (recordOf l))) (omega arith))
+    ∙ ap (λ (t : List ℕ). fine (record { leaves = suc n + length ls; table = t })) (ap (λ (k : ℕ). putAll next k (recordsOf ls)) r ∙ put-more table (recordNumbers * n) (numbersOf (recordOf l)) (recordsOf ls)))
 
 -- leaves beyond the room: the first of them is where the table is full
 pub seat-full : (ls : List Leaf) (n : ℕ) (table : List ℕ) (i : ℕ) (l : Leaf) → n + i ≡ room table → At ls i l → seat ls n table ≡ full (l .position)
@@ -96,4 +96,4 @@ seat-full (m ∷ ls) n table zero l h at =
     let q : m ≡ l = cc in
     rw (le-leb (room table) n (omega arith), q)
 seat-full (m ∷ ls) n table (suc i) l h at =
-    rw (lt-leb (room table) n (omega arith)) (seat-full ls (suc n) (putAll table (recordNumbers * n) (rowOf m)) i l (rw (room-put table (recordNumbers * n) (rowOf m)) (omega arith)) at)
+    rw (lt-leb (room table) n (omega arith)) (seat-full ls (suc n) (putRecord table n (recordOf m)) i l (rw (room-put table (recordNumbers * n) (numbersOf (recordOf m))) (omega arith)) at)

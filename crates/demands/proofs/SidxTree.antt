@@ -10,12 +10,13 @@ use lib.Dec.{eqb, ltb}
 use lib.ListN.{length, take, drop, length-append, length-drop, take-append-drop, drop-of-length-le}
 use lib.Seq.{take-append-le, drop-append-le, drop-drop, take-add, take-all, length-take-le}
 use borrow.Author.Tests.{not-true, not-false, ltb-false, eqb-true, eqb-false, ne-eqb, le-ltb}
+use Rattle.table.specs.Table.{room}
 use Rattle.basics.specs.Choose.{pick, andThen}
 use Rattle.basics.specs.Bytes.{numberFrom, number}
 use Rattle.basics.proofs.Picks.{lt-or-ge, pick-with}
 use Rattle.basics.proofs.Tests.{and-both, or-neither, same-test}
 use Rattle.basics.proofs.Options.{then-cong, then-none, then-assoc, then-inv, then-pick, pick-then, pick-some, pick-else, absurd-some}
-use Rattle.segment.specs.Constants.{entryBytes, mostEntries, levelBytes}
+use Rattle.segment.specs.Constants.{entryBytes, mostEntries}
 use Rattle.segment.specs.Boxes.{provided, unless, Field, field, Entry, entryOf, entriesOf, sizes, durations, timeBytes, sidxIndex}
 use Rattle.segment.specs.Boxes as tree
 use Rattle.machine.specs.Faults.{shows}
@@ -33,7 +34,8 @@ use Rattle.state.specs.declared.Sums.{Sums}
 use Rattle.state.specs.declared.Index.{Index}
 use Rattle.state.specs.declared.EntryPart.{EntryPart}
 use Rattle.state.specs.declared.EntryPart.the-variants as entry
-use Rattle.state.specs.Flow.{Flow, Left, left, withWork, putAll}
+use Rattle.state.specs.Flow.{Flow, Left, left, withWork, levelBytes}
+use Rattle.basics.specs.Put.{putAll}
 use Rattle.state.specs.Sidx.{Place, topmost, under, partOf, sidxVersionFaults, idFaults, scaleFaults, timeFaults, offsetFaults, countFaults, sumFaults, wideMore, indexOf, sizeOf, entrySizeFaults, plusSize, plusDuration, nextEntry, wordPlace, numberPlace, keepByte}
 use Rattle.descent.specs.Sidx.{closeD, entryD, entriesD, countedD, countD, reservedD, offsetD, timeD, scaleD, idD, flagsD, versionD, sidxD}
 use Rattle.demands.specs.Told.{upon, clean, indexFrom, entryPart, withEntries, suits}

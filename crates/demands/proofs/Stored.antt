@@ -10,6 +10,7 @@ use lib.Dec.{eqb, ltb, leb}
 use lib.ListN.{length, getD, take, drop, set, length-append, length-take, length-drop, take-append-drop}
 use lib.Seq.{sets, length-sets, sets-eq, ext-getD, getD-take, getD-drop, getD-set-other, take-append-le, drop-append-le, drop-append-add, drop-drop, length-take-le}
 use borrow.Author.Tests.{leb-true, leb-false, eqb-false, eq-eqb, ne-eqb, le-ltb}
+use Rattle.table.specs.Table.{room}
 use Rattle.basics.specs.Choose.{pick, andThen}
 use Rattle.basics.specs.Bytes.{number}
 use Rattle.basics.proofs.Picks.{pick-no}
@@ -17,7 +18,7 @@ use Rattle.basics.proofs.Options.{then-inv, pick-else}
 use Rattle.segment.specs.Constants.{entryBytes, typeBit}
 use Rattle.segment.specs.Boxes.{field, entryOf, entriesOf}
 use Rattle.segment.specs.Boxes as tree
-use Rattle.state.specs.Flow.{putAll}
+use Rattle.basics.specs.Put.{putAll}
 use Rattle.state.specs.Levels.{Entry, wordAt, entryAt}
 
 -- Two work areas of one length that are the same below a place.

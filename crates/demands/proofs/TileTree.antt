@@ -10,8 +10,9 @@ use lib.Dec.{eqb}
 use lib.ListN.{length, take, drop, take-append-drop, length-drop}
 use lib.Seq.{length-take-le}
 use borrow.Author.Tests.{eq-eqb, ne-eqb, le-ltb, lt-leb}
+use Rattle.table.specs.Table.{room}
 use Rattle.basics.specs.Choose.{pick, andThen}
-use Rattle.segment.specs.Constants.{workBytes, levelBytes, entryBytes, mostEntries}
+use Rattle.segment.specs.Constants.{entryBytes, mostEntries}
 use Rattle.segment.specs.Boxes as tree
 use Rattle.segment.specs.Boxes.{sizes, durations}
 use Rattle.segment.specs.Leaves.{leafTimes}
@@ -23,16 +24,16 @@ use Rattle.state.specs.declared.Seen.{Seen}
 use Rattle.state.specs.declared.Top.{Top}
 use Rattle.state.specs.declared.Level.{Level}
 use Rattle.state.specs.declared.Slot.{Slot}
-use Rattle.state.specs.Flow.{Flow, withNow, listed}
+use Rattle.state.specs.Flow.{Flow, withNow, listed, workBytes, levelBytes}
 use Rattle.state.specs.Rows.{noRoom}
 use Rattle.state.specs.Levels.{Entry, entryAt, altered, slotOf, took}
-use Rattle.state.specs.Stages.{innerLevel, leafRow}
+use Rattle.state.specs.Stages.{innerLevel, leafRecord}
 use Rattle.descent.specs.Leaf.{leafD}
 use Rattle.descent.specs.Whole.{Under, innerD, slotD, readBackD, entryD, entriesD}
-use Rattle.demands.specs.Told.{upon, climb}
-use Rattle.lookup.specs.Rows.{rowOf}
-use Rattle.demands.specs.Verdict.{Verdict, wrong, full, fine, judge, told, seen0, enlist, NotFine, Meets}
-use Rattle.demands.proofs.Verdicts.{meets-same, meets-equal, meets-trans, judge-after, judge-cong, judge-not, judge-upon, told-then, told-cong, told-meets, enlist-meets, enlist-now, enlist-both}
+use Rattle.demands.specs.Told.{climb}
+use Rattle.covering.specs.Records.{recordOf}
+use Rattle.demands.specs.Verdict.{Verdict, judge, told, seen0, enlist, Meets}
+use Rattle.demands.proofs.Verdicts.{meets-equal, meets-trans, judge-after, judge-not, judge-upon, told-then, told-cong, told-meets, enlist-meets, enlist-now, enlist-both}
 use Rattle.demands.proofs.Stored.{Alike, alike-trans, alike-refl, entryFrom, Holds, holds-alike, Sized}
 use Rattle.demands.proofs.LeafTree.{leaf-tree, leaf-first, leaf-full, leaf-ends, leaf-numbers}
 
@@ -95,18 +96,18 @@ module _ (X : Type 0) (top : Top) (depth : ℕ) where
     slot = slotOf (entryFrom e) (f .now) n
 
     abbrev leaf-out : Seen → Flow → ℕ → List ℕ → Verdict X
-    leaf-out s f' m cs = h tt (listed f' (leafRow slot (f' .now) (s .first)) (slot .until) (s .last)) m cs
+    leaf-out s f' m cs = h tt (listed f' (leafRecord slot (f' .now) (s .first)) (slot .until) (s .last)) m cs
 
     abbrev leaf-told : List ℕ → Verdict X
     leaf-told ts = enlist (itemOf n (f .now) e ts ∷ []) g (λ g'. K (withNow g' (f .now + e .duration)))
 
     listed-like : (ts : List ℕ) (s : Seen) → s .first ≡ firstTime ts →
-        Meets (leaf-out s f (slot .end) ys) (K (withNow (listed g (rowOf (itemOf n (f .now) e ts .leaf)) (f .now + e .duration) (s .last)) (f .now + e .duration)))
+        Meets (leaf-out s f (slot .end) ys) (K (withNow (listed g (recordOf (itemOf n (f .now) e ts .leaf)) (f .now + e .duration) (s .last)) (f .now + e .duration)))
     unfolding listed
     listed-like ts s q =
         let e1 : n + e .size - n ≡ e .size = omega arith in
         let e2 : f .now + e .duration - f .now ≡ e .duration = omega arith in
-        follows (listed f (leafRow slot (f .now) (s .first)) (slot .until) (s .last)) (withNow (listed g (rowOf (itemOf n (f .now) e ts .leaf)) (f .now + e .duration) (s .last)) (f .now + e .duration)) refl (alike-refl _ _)
+        follows (listed f (leafRecord slot (f .now) (s .first)) (slot .until) (s .last)) (withNow (listed g (recordOf (itemOf n (f .now) e ts .leaf)) (f .now + e .duration) (s .last)) (f .now + e .duration)) refl (alike-refl _ _)
         (record { leaves = ap (λ (k : ℕ). suc k) (lk .leaves); now = refl; last = refl; table = rw (e1, e2, q, lk .table, lk .leaves) })
 
     same-room : (t : Bool) → noRoom (f .leaves) (f .table) ≡ t → noRoom (g .leaves) (g .table) ≡ t

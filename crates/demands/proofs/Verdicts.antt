@@ -15,7 +15,7 @@ use Rattle.machine.specs.declared.Refusal.{Refusal}
 use Rattle.state.specs.Flow.{Flow, Left, withNow, listed}
 use Rattle.state.specs.Rows.{noRoom}
 use Rattle.demands.specs.Told.{upon, climb}
-use Rattle.lookup.specs.Rows.{rowOf}
+use Rattle.covering.specs.Records.{recordOf}
 use Rattle.demands.specs.Verdict.{Verdict, wrong, full, fine, judge, told, seen0, enlist, NotFine, Meets}
 
 pub meets-same : {X : Type 0} (v : Verdict X) → Meets v v
@@ -101,21 +101,21 @@ unfolding enlist
 enlist-append [] js f k = refl
 enlist-append (i ∷ is) js f k =
     ap (pick (noRoom (f .leaves) (f .table)) (full (i .leaf .position)))
-    (told-cong (climb (seen0 (f .last)) (i .times)) _ _ (λ s e. enlist-append is js (listed f (rowOf (i .leaf)) (i .leaf .start + i .leaf .duration) (s .last)) k))
+    (told-cong (climb (seen0 (f .last)) (i .times)) _ _ (λ s e. enlist-append is js (listed f (recordOf (i .leaf)) (i .leaf .start + i .leaf .duration) (s .last)) k))
 
 pub enlist-meets : {X : Type 0} (is : List Item) (f : Flow) (k k' : Flow → Verdict X) → ((g : Flow) → g .work ≡ f .work → Meets (k g) (k' g)) → Meets (enlist is f k) (enlist is f k')
 unfolding enlist listed
 enlist-meets [] f k k' h = h f refl
 enlist-meets (i ∷ is) f k k' h =
     pick-meets (noRoom (f .leaves) (f .table)) (full (i .leaf .position)) _ _
-    (told-meets (climb (seen0 (f .last)) (i .times)) _ _ (λ s e. enlist-meets is (listed f (rowOf (i .leaf)) (i .leaf .start + i .leaf .duration) (s .last)) k k' h))
+    (told-meets (climb (seen0 (f .last)) (i .times)) _ _ (λ s e. enlist-meets is (listed f (recordOf (i .leaf)) (i .leaf .start + i .leaf .duration) (s .last)) k k' h))
 
 pub enlist-not : {X : Type 0} (is : List Item) (f : Flow) (k : Flow → Verdict X) → ((g : Flow) → NotFine (k g)) → NotFine (enlist is f k)
 unfolding enlist
 enlist-not [] f k h = h f
 enlist-not (i ∷ is) f k h =
     pick-not (noRoom (f .leaves) (f .table)) (full (i .leaf .position)) _ tt
-    (told-not (climb (seen0 (f .last)) (i .times)) _ (λ s e. enlist-not is (listed f (rowOf (i .leaf)) (i .leaf .start + i .leaf .duration) (s .last)) k h))
+    (told-not (climb (seen0 (f .last)) (i .times)) _ (λ s e. enlist-not is (listed f (recordOf (i .leaf)) (i .leaf .start + i .leaf .duration) (s .last)) k h))
 
 -- the time at which the list begins is not looked at
 pub enlist-now : {X : Type 0} (is : List Item) (f : Flow) (s t : ℕ) (k : Flow → Verdict X) → enlist is (withNow f s) (λ g. k (withNow g t)) ≡ enlist is f (λ g. k (withNow g t))

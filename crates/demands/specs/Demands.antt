@@ -4,7 +4,7 @@ use mathlib.Core.Path.{_≡_}
 use mathlib.Core.List.{List, _++_}
 use mathlib.Core.Option.{some}
 use lib.ListN.{length, drop}
-use Rattle.segment.specs.Constants.{recordNumbers}
+use Rattle.table.specs.Table.{recordNumbers}
 use Rattle.segment.specs.Boxes.{Index, durations}
 use Rattle.segment.specs.Tree.{Leaf, Opened, topIndex}
 use Rattle.state.specs.declared.Top.{Top}
@@ -13,7 +13,7 @@ use Rattle.state.specs.declared.FinishAnswer.{FinishAnswer}
 use Rattle.state.specs.declared.FinishAnswer.the-variants as finishes
 use Rattle.state.specs.Calls.{Out, startOf}
 use Rattle.state.specs.Parts.{held, feedAll, finishHeld}
-use Rattle.lookup.specs.Rows.{rowsOf}
+use Rattle.covering.specs.Records.{recordsOf}
 
 -- what an index states of the segment: reference ID, timescale, start and sum of durations
 abbrev pub stated : Index → Top
@@ -27,11 +27,11 @@ pub record Accepts (brand : ℕ) (bytes table : List ℕ) (ls : List Leaf) (o : 
   pub top : Opened
   pub opened : topIndex brand bytes ≡ some top
   pub states : o .state ≡ state.Accepted (length bytes) (length ls) (stated (top .index))
-  pub lists : o .table ≡ rowsOf ls ++ drop (recordNumbers * length ls) table
+  pub lists : o .table ≡ recordsOf ls ++ drop (recordNumbers * length ls) table
 
 -- a table that begins with the records of these leaves, whatever stands behind them
 abbrev pub BeginsWith : List Leaf → List ℕ → Type 0
-BeginsWith ls table = (behind : List ℕ) × (table ≡ rowsOf ls ++ behind)
+BeginsWith ls table = (behind : List ℕ) × (table ≡ recordsOf ls ++ behind)
 
 -- start, the parts fed in order, and finish, which is called whatever the feeds answered
 abbrev pub inParts : ℕ → List (List ℕ) → List ℕ → List ℕ → Out FinishAnswer

@@ -16,7 +16,8 @@ use Rattle.machine.specs.declared.Header.{Header}
 use Rattle.state.specs.declared.Seen.{Seen}
 use Rattle.state.specs.declared.Span.{Span}
 use Rattle.state.specs.declared.Index.{Index}
-use Rattle.state.specs.Flow.{Flow, Left, putAll, withWork}
+use Rattle.state.specs.Flow.{Flow, Left, withWork}
+use Rattle.basics.specs.Put.{putAll}
 use Rattle.state.specs.Traf.{saw}
 use Rattle.state.specs.Sidx.{Place, partOf, idFaults, scaleFaults, timeFaults, offsetFaults, sumFaults}
 

@@ -1,6 +1,6 @@
 -- What a reading with a leaf table comes to, and what the tree says it should come to: fine with what it gives, full at the first leaf
 -- beyond the room, or wrong.
-use Prim.Native.Nat.{ℕ, suc, _+_, _*_}
+use Prim.Native.Nat.{ℕ, suc, _+_}
 use mathlib.Core.Path.{_≡_}
 use mathlib.Core.List.{List, [], _∷_}
 use mathlib.Core.Option.{Option, some, none}
@@ -12,11 +12,11 @@ use Rattle.state.specs.declared.FinishAnswer.{FinishAnswer}
 use Rattle.state.specs.declared.FinishAnswer.the-variants as finishes
 use Rattle.state.specs.Calls.{Out}
 use Rattle.state.specs.declared.Seen.{Seen}
-use Rattle.segment.specs.Constants.{recordNumbers}
-use Rattle.state.specs.Flow.{Flow, Left, putAll, listed}
+use Rattle.table.specs.Table.{putRecord}
+use Rattle.state.specs.Flow.{Flow, Left, listed}
 use Rattle.state.specs.Rows.{noRoom}
 use Rattle.state.specs.Leaf.{leafSo0}
-use Rattle.lookup.specs.Rows.{rowOf}
+use Rattle.covering.specs.Records.{recordOf}
 use Rattle.demands.specs.Told.{climb}
 
 pub data Verdict (X : Type 0) : Type 0 where
@@ -44,7 +44,7 @@ unfoldable pub enlist : {X : Type 0} → List Item → Flow → (Flow → Verdic
 enlist [] f k = k f
 enlist (i ∷ is) f k =
     pick (noRoom (f .leaves) (f .table)) (full (i .leaf .position))
-    (told (climb (seen0 (f .last)) (i .times)) (λ s. enlist is (listed f (rowOf (i .leaf)) (i .leaf .start + i .leaf .duration) (s .last)) k))
+    (told (climb (seen0 (f .last)) (i .times)) (λ s. enlist is (listed f (recordOf (i .leaf)) (i .leaf .start + i .leaf .duration) (s .last)) k))
 
 -- A reading meets what the tree says: the same, but where the tree says wrong it may be full as well.
 abbrev pub NotFine : {X : Type 0} → Verdict X → Type 0
@@ -65,7 +65,7 @@ pub record Listing : Type 0 where
 
 unfoldable pub seat : List Leaf → ℕ → List ℕ → Verdict Listing
 seat [] n table = fine (record { leaves = n; table = table })
-seat (l ∷ ls) n table = pick (noRoom n table) (full (l .position)) (seat ls (suc n) (putAll table (recordNumbers * n) (rowOf l)))
+seat (l ∷ ls) n table = pick (noRoom n table) (full (l .position)) (seat ls (suc n) (putRecord table n (recordOf l)))
 
 -- what the whole reading comes to: its list, or 15 at a place, or another refusal
 unfoldable pub verdictBy : FinishAnswer → List ℕ → Verdict Listing

@@ -5,7 +5,7 @@ use mathlib.Core.Bool.{Bool, true, false}
 use lib.Dec.{eqb, ltb}
 use lib.ListN.{length, take, drop}
 use Rattle.basics.specs.Choose.{pick}
-use Rattle.segment.specs.Constants.{limit, workBytes, levelBytes, entryBytes}
+use Rattle.segment.specs.Constants.{limit, entryBytes}
 use Rattle.machine.specs.Faults.{refusal, lowest, unless}
 use Rattle.machine.specs.Run.{Res, okay, fail, cut, after}
 use Rattle.machine.specs.Heads.{boxEnd}
@@ -18,11 +18,11 @@ use Rattle.state.specs.declared.Index.{Index}
 use Rattle.state.specs.declared.State.the-variants as state
 use Rattle.state.specs.declared.FinishAnswer.{FinishAnswer}
 use Rattle.state.specs.declared.FinishAnswer.the-variants as finishes
-use Rattle.state.specs.Flow.{Flow, Left, left, withNow, listed}
+use Rattle.state.specs.Flow.{Flow, Left, left, withNow, listed, workBytes, levelBytes}
 use Rattle.state.specs.Opening.{spanOf}
 use Rattle.state.specs.Sidx.{under}
 use Rattle.state.specs.Levels.{Entry, entryAt, entryFaults, slotOf, took}
-use Rattle.state.specs.Stages.{gapBoxes, topOf, topLevel, innerKind, innerLevel, leafRow}
+use Rattle.state.specs.Stages.{gapBoxes, topOf, topLevel, innerKind, innerLevel, leafRecord}
 use Rattle.state.specs.Step.{pastLimit, pastMaterial, flow0}
 use Rattle.state.specs.Calls.{Out, out, startOf}
 use Rattle.descent.specs.Sidx.{sidxD}
@@ -50,7 +50,7 @@ innerD top slot depth f n bs = boxD (innerKind top slot depth) (λ h g m cs. sid
 unfoldable pub slotD : Under → Top → ℕ → Bool → Slot → Flow → ℕ → List ℕ → Went
 slotD inner top depth true slot f n bs = after (innerD top slot depth f n bs) (λ x g m cs. inner (suc depth) (innerLevel x slot) g m cs)
 slotD inner top depth false slot f n bs =
-    after (leafD (top .id) slot f n bs) (λ seen g m cs. okay tt (listed g (leafRow slot (g .now) (seen .first)) (slot .until) (seen .last)) m cs)
+    after (leafD (top .id) slot f n bs) (λ seen g m cs. okay tt (listed g (leafRecord slot (g .now) (seen .first)) (slot .until) (seen .last)) m cs)
 
 unfoldable pub readBackD : Under → Top → ℕ → Level → Entry → Flow → ℕ → List ℕ → Went
 readBackD inner top depth l e f n bs =

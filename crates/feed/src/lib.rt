@@ -15,7 +15,7 @@ ghost use mathlib.Core.Path.{_≡_};
 ghost use Prim.Native.Nat.{_≤_, _<_};
 ghost use lib.ListN.{length};
 ghost use Rattle.basics.specs.Bytes.{AllBytes};
-ghost use Rattle.segment.specs.Constants.{workBytes};
+ghost use Rattle.state.specs.Flow.{workBytes};
 ghost use Rattle.machine.specs.Faults.{refusal};
 ghost use Rattle.state.specs.Calls.{out, feedOf, feedState};
 ghost use Rattle.state.specs.Ranges.{InRange};

@@ -7,7 +7,8 @@ use native.Mathlib.Omega.{arith}
 use lib.Dec.{eqb, ltb, leb}
 use borrow.Author.Tests.{lt-ltb, le-ltb, le-leb, lt-leb, eq-eqb, ne-eqb, eqb-true, eqb-false}
 use Rattle.basics.proofs.Picks.{lt-or-ge}
-use Rattle.segment.specs.Constants.{timeLimit, wordLimit, workBytes}
+use Rattle.segment.specs.Constants.{timeLimit, wordLimit}
+use Rattle.state.specs.Flow.{workBytes}
 use Rattle.state.specs.declared.Draft.{Draft}
 use Rattle.state.specs.declared.Sums.{Sums}
 use Rattle.state.specs.declared.IndexPart.{IndexPart}

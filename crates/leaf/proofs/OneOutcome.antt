@@ -7,7 +7,8 @@ use Rattle.basics.specs.Outcome.{Coincide}
 use Rattle.machine.specs.Run.{Sub, go, done, bad}
 use Rattle.state.specs.declared.Seen.{Seen}
 use Rattle.state.specs.declared.LeafBoxes.{LeafBoxes}
-use Rattle.state.specs.Flow.{Flow, Left, room}
+use Rattle.state.specs.Flow.{Flow, Left}
+use Rattle.table.specs.Table.{room}
 use Rattle.state.specs.Calls.{flowOf}
 use Rattle.leaf.specs.Leaf.{viewLeaf, RoomIs}
 use Rattle.leaf.specs.declared.LeafStep.{LeafStep}

@@ -1,4 +1,3 @@
 pub mod Sums
 pub mod Places
-pub mod Rows
 pub mod OneOutcome

@@ -1,10 +1,7 @@
 -- The contracts of the functions that other crates call, as the check reads them: two outcomes that each allows coincide, and those that require nothing ask nothing.
-use Prim.Native.Nat.{ℕ}
 use mathlib.Core.Path.{_≡_, refl, sym, ap, _∙_}
-use mathlib.Core.List.{List}
 use mathlib.Core.Option.{Option, some, none}
-use lib.ListN.{replicate, length-replicate}
-use Rattle.basics.specs.Outcome.{OneOutcome, Coincide, after}
+use Rattle.basics.specs.Outcome.{OneOutcome, Coincide}
 use Rattle.state.specs.declared.Levels.{Levels}
 use Rattle.levels.specs.Views.{openOf}
 use Rattle.levels.specs.declared.Still.{Still}
@@ -23,10 +20,6 @@ use Rattle.levels.proofs.still_open.Kinds as still-open-kinds
 use Rattle.levels.proofs.still_open.Reads as still-open-stated
 use Rattle.levels.proofs.read_back.Kinds as read-back-kinds
 use Rattle.levels.proofs.read_back.Reads as read-back-stated
-use Rattle.levels.proofs.no_room.Kinds as no-room-kinds
-use Rattle.levels.proofs.no_room.Reads as no-room-stated
-use Rattle.levels.proofs.put_row.Kinds as put-row-kinds
-use Rattle.levels.proofs.put_row.Reads as put-row-stated
 
 -- of one work area and place: one number
 pub word-at-once : Coincide 1 word-at-kinds.ps word-at-kinds.r word-at-stated.Post
@@ -76,18 +69,3 @@ still-open-once = record {
 -- of one work area, the open indexes, a time and a byte count: one answer
 pub read-back-once : Coincide 1 read-back-kinds.ps read-back-kinds.r read-back-stated.Post
 read-back-once κs given r r' left left' p q = (p ∙ sym q, refl)
-
--- of one count of leaves and one length of the table: one answer, since a table of that length can be had
-pub no-room-once : OneOutcome 0 no-room-kinds.ps no-room-kinds.r no-room-stated.Pre no-room-stated.Post
-no-room-once = record {
-  asks-nothing = λ κs given. tt;
-  outcomes-coincide = λ κs given r r' left left' p q.
-      let table : List ℕ = replicate (given .1 .0) 0 in
-      let long = length-replicate {A = ℕ} (given .1 .0) 0 in
-      (p table long ∙ sym (q table long), refl);
-}
-
--- of one table, count of leaves, slot, time and first decode time: one table after the call, number by number
-pub put-row-once : Coincide 1 put-row-kinds.ps put-row-kinds.r put-row-stated.Post
-put-row-once κs given r r' left left' p q =
-    (refl, ap (λ (t : List ℕ). after 1 put-row-kinds.ps put-row-kinds.r κs given (t, (tt, (tt, (tt, (tt, tt)))))) (p ∙ sym q))

@@ -7,7 +7,8 @@ use lib.ListN.{length, getD, drop}
 use lib.Seq.{drop-cons}
 use Rattle.basics.specs.Bytes.{numberFrom}
 use lib.Dec.{leb}
-use Rattle.segment.specs.Constants.{workBytes, entryBytes, typeBit}
+use Rattle.segment.specs.Constants.{entryBytes, typeBit}
+use Rattle.state.specs.Flow.{workBytes}
 use Rattle.state.specs.declared.Levels.{Levels}
 use Rattle.state.specs.declared.Levels.the-variants as levels
 use Rattle.state.specs.Levels.{Entry, wordAt, entryAt, inmost, depth, entryPlace}

@@ -1,24 +1,19 @@
-// Entries read back from the work area, the indexes that stand open, and the leaf table's rows: what the stages of a reading share.
+// Entries read back from the work area, and the indexes that stand open: what the stages of a reading share.
 // A sum that may pass a word's range is never made: it is compared by a difference.
 ghost use mathlib.Core.Path.{_≡_};
 ghost use mathlib.Core.Bool.{_&&_};
-ghost use mathlib.Core.List.{List};
-ghost use Prim.Native.Nat.{ℕ, _+_, _-_, _*_, _<_, _≤_};
+ghost use Prim.Native.Nat.{_+_, _-_, _*_, _<_, _≤_};
 ghost use lib.Dec.{eqb, ltb, leb};
-ghost use lib.ListN.{length, set};
-ghost use Rattle.segment.specs.Constants.{workBytes, recordNumbers, mostRecords, mostEntries, timeLimit};
-ghost use Rattle.state.specs.Flow as flows;
-ghost use Rattle.state.specs.Rows as faults;
+ghost use lib.ListN.{length};
+ghost use Rattle.segment.specs.Constants.{mostEntries, timeLimit};
+ghost use Rattle.state.specs.Flow.{workBytes};
 ghost use Rattle.state.specs.Levels as defs;
-ghost use Rattle.state.specs.Stages.{leafRow};
 ghost use Rattle.state.specs.Ranges.{Within, levelsBounds};
 ghost use Rattle.levels.specs.Views.{entryOf, readOf, openOf, stillFour};
 use state::ENTRY_BYTES;
 use state::LEVEL_BYTES;
 use state::Level;
 use state::Levels;
-use state::MOST_RECORDS;
-use state::NUMBERS;
 use state::Slot;
 use state::TYPE_BIT;
 
@@ -289,56 +284,4 @@ pub fn read_back(work: &[u8], ls: Levels, at: u64, n: u64) -> EntryRead
 {
     let e = next_entry(work, ls);
     entry_answer(inmost(ls), e, at, n)
-}
-
-// How many records a leaf table of this length takes.
-fn room(len: usize) -> u64
-    ensures { λ r. ⌜ ((table : List ℕ) → length table ≡ len → r ≡ flows.room table) ⌝ }
-{
-    let whole = (len / NUMBERS) as u64;
-    if MOST_RECORDS < whole {
-        return MOST_RECORDS;
-    }
-    whole
-}
-
-// Row 15: whether the table has no room for one leaf more.
-pub fn no_room(leaves: u64, len: usize) -> bool
-    ensures { λ r. ⌜ ((table : List ℕ) → length table ≡ len → r ≡ faults.noRoom leaves table) ⌝ }
-{
-    room(len) <= leaves
-}
-
-// A number put where the table has a place for it.
-fn put_at(table: &mut [u64], i: usize, x: u64)
-    ensures { λ _. ⌜ now (table .exit) ≡ set (now (table .entry)) i x ⌝ }
-{
-    if table.len() <= i {
-        return;
-    }
-    table[i] = x;
-}
-
-// What is left of `a` without `b`, and 0 where `b` is more.
-fn less(a: u64, b: u64) -> u64
-    ensures { λ r. ⌜ r ≡ a - b ⌝ }
-{
-    if a < b {
-        return 0;
-    }
-    a - b
-}
-
-// A leaf's record, after those of the `leaves` before it.
-pub fn put_row(table: &mut [u64], leaves: u64, slot: Slot, at: u64, first: u64)
-    requires { ⌜ leaves ≤ mostRecords ⌝ }
-    ensures { λ _. ⌜ now (table .exit) ≡ flows.putAll (now (table .entry)) (recordNumbers * leaves) (leafRow slot at first) ⌝ }
-{
-    let i = NUMBERS * (leaves as usize);
-    put_at(table, i, slot.pos);
-    put_at(table, i + 1, less(slot.end, slot.pos));
-    put_at(table, i + 2, at);
-    put_at(table, i + 3, less(slot.until, at));
-    put_at(table, i + 4, slot.sap);
-    put_at(table, i + 5, first);
 }

@@ -11,8 +11,8 @@ use listing::Line;
 use listing::heading;
 use listing::table_line;
 use state::FinishAnswer;
-use state::NUMBERS;
 use state::State;
+use table::NUMBERS;
 
 // Each read but the last gives a byte at least, and a feed refuses byte 268,435,457 if none before it: what is not refused is read
 // in no more turns. What follows a refusal is left after as many.

@@ -7,11 +7,12 @@ use native.Mathlib.Omega.{arith}
 use native.Mathlib.Numerals.{add-one, unary-clauses}
 use lib.Dec.{ltb}
 use borrow.Author.Tests.{lt-ltb, le-ltb}
-use lib.ListN.{length, take, drop, replicate, set, getD, length-append, length-take}
+use lib.ListN.{length, take, replicate, set, getD, length-append}
 use lib.Seq.{take-suc}
 use Rattle.basics.specs.Choose.{pick}
 use Rattle.basics.proofs.Picks.{pick-yes, pick-no, pick-holds}
-use Rattle.segment.specs.Constants.{recordNumbers}
+use Rattle.table.specs.Table.{recordNumbers, numbersOf, recordAt}
+use Rattle.table.specs.declared.Record.{Record}
 use Rattle.state.specs.declared.FinishAnswer.{FinishAnswer}
 use Rattle.state.specs.declared.FinishAnswer.the-variants.{Listed, Refused}
 use Rattle.listing.specs.Text.{digit, decimalIn, decimal, spaced, headingText, leafText, tableLine, lineOf, Adds}
@@ -116,22 +117,20 @@ pub heading-length : (a : FinishAnswer) → length (headingText a) ≤ 49
 heading-length (Listed leaves) = omega (arith, spaced-length (leaves ∷ []))
 heading-length (Refused r) = omega (arith, spaced-length (r .number ∷ r .place ∷ []))
 
-leaf-length : (leaf : ℕ) (numbers : List ℕ) → length (leafText leaf numbers) ≤ 20 + 21 * length numbers
-leaf-length leaf numbers = omega (arith, decimal-length 20 leaf, spaced-length numbers, length-append (decimal leaf) (spaced numbers))
+leaf-length : (leaf : ℕ) (r : Record) → length (leafText leaf r) ≤ 146
+leaf-length leaf r = omega (arith, decimal-length 20 leaf, spaced-length (numbersOf r), length-append (decimal leaf) (spaced (numbersOf r)))
 
 -- the line of a leaf whose record the table holds, and of one whose record it does not hold
-pub after-held : (table : List ℕ) (i : ℕ) → i < length table / recordNumbers → tableLine table i ≡ leafText (i + 1) (take recordNumbers (drop (recordNumbers * i) table))
+pub after-held : (table : List ℕ) (i : ℕ) → i < length table / recordNumbers → tableLine table i ≡ leafText (i + 1) (recordAt table i)
 unfolding tableLine
-after-held table i h = pick-yes (ltb i (length table / recordNumbers)) (leafText (i + 1) (take recordNumbers (drop (recordNumbers * i) table))) [] (lt-ltb i (length table / recordNumbers) h)
+after-held table i h = pick-yes (ltb i (length table / recordNumbers)) (leafText (i + 1) (recordAt table i)) [] (lt-ltb i (length table / recordNumbers) h)
 
 pub after-none : (table : List ℕ) (i : ℕ) → length table / recordNumbers ≤ i → tableLine table i ≡ []
 unfolding tableLine
-after-none table i h = pick-no (ltb i (length table / recordNumbers)) (leafText (i + 1) (take recordNumbers (drop (recordNumbers * i) table))) [] (le-ltb i (length table / recordNumbers) h)
+after-none table i h = pick-no (ltb i (length table / recordNumbers)) (leafText (i + 1) (recordAt table i)) [] (le-ltb i (length table / recordNumbers) h)
 
 pub after-length : (table : List ℕ) (i : ℕ) → length (tableLine table i) ≤ 146
 unfolding tableLine
 after-length table i =
-    let numbers : List ℕ = take recordNumbers (drop (recordNumbers * i) table) in
-    pick-holds (λ (text : List ℕ). length text ≤ 146) (ltb i (length table / recordNumbers)) (leafText (i + 1) numbers) []
-    (λ e. omega (arith, leaf-length (i + 1) numbers, length-take recordNumbers (drop (recordNumbers * i) table)))
-    (λ e. omega arith)
+    pick-holds (λ (text : List ℕ). length text ≤ 146) (ltb i (length table / recordNumbers)) (leafText (i + 1) (recordAt table i)) []
+    (λ e. leaf-length (i + 1) (recordAt table i)) (λ e. omega arith)

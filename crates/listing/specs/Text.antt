@@ -1,11 +1,12 @@
 -- The text of a listing, line by line, in ASCII and without the lines' ends.
-use Prim.Native.Nat.{ℕ, zero, suc, _+_, _*_, _-_, _/_, _%_}
+use Prim.Native.Nat.{ℕ, zero, suc, _+_, _-_, _/_, _%_}
 use mathlib.Core.Path.{_≡_}
 use mathlib.Core.List.{List, [], _∷_, _++_}
 use lib.Dec.{ltb}
-use lib.ListN.{length, take, drop, replicate}
+use lib.ListN.{length, replicate}
 use Rattle.basics.specs.Choose.{pick}
-use Rattle.segment.specs.Constants.{recordNumbers}
+use Rattle.table.specs.Table.{recordNumbers, numbersOf, recordAt}
+use Rattle.table.specs.declared.Record.{Record}
 use Rattle.machine.specs.declared.Refusal.{Refusal}
 use Rattle.state.specs.declared.FinishAnswer.{FinishAnswer}
 use Rattle.state.specs.declared.FinishAnswer.the-variants.{Listed, Refused}
@@ -47,12 +48,12 @@ headingText (Listed leaves) = okWord ++ spaced (leaves ∷ [])
 headingText (Refused r) = refusedText r
 
 -- leaf number and the six numbers
-abbrev pub leafText : ℕ → List ℕ → List ℕ
-leafText leaf numbers = decimal leaf ++ spaced numbers
+abbrev pub leafText : ℕ → Record → List ℕ
+leafText leaf r = decimal leaf ++ spaced (numbersOf r)
 
 -- the line of the leaf with so many before it, from its record in the table; nothing where the table holds no such record
 unfoldable pub tableLine : List ℕ → ℕ → List ℕ
-tableLine table i = pick (ltb i (length table / recordNumbers)) (leafText (i + 1) (take recordNumbers (drop (recordNumbers * i) table))) []
+tableLine table i = pick (ltb i (length table / recordNumbers)) (leafText (i + 1) (recordAt table i)) []
 
 -- the line that holds a text, with zeros after it
 abbrev pub lineOf : List ℕ → Line

@@ -2,12 +2,15 @@
 ghost use mathlib.Core.List.{[], _∷_, _++_};
 ghost use mathlib.Core.Path.{_≡_};
 ghost use Prim.Native.Nat.{_+_, _*_, _≤_, _<_};
-ghost use lib.ListN.{length, take, drop};
-ghost use Rattle.segment.specs.Constants.{recordNumbers};
+ghost use lib.ListN.{length};
+ghost use Rattle.table.specs.Table.{recordNumbers, recordAt};
 ghost use Rattle.listing.specs.Text.{decimalIn, spaced, okWord, refusedText, headingText, leafText, tableLine, lineOf, Adds};
 use machine::Refusal;
+use records::numbers_of;
+use records::record_at;
 use state::FinishAnswer;
-use state::NUMBERS;
+use table::NUMBERS;
+use table::Record;
 
 // How many digits the largest number of 64 bits has.
 const DIGITS: usize = 20;
@@ -115,28 +118,21 @@ pub fn heading(answer: FinishAnswer) -> Line
     }
 }
 
-// A leaf's line: its number, from 1, and the six numbers of its record.
-pub fn leaf_line(number: u64, numbers: [u64; 6]) -> Line
-    ensures { λ r. ⌜ r ≡ lineOf (leafText number numbers) ⌝ }
+// A leaf's line: its number, from 1, and the numbers of its record.
+pub fn leaf_line(number: u64, leaf: Record) -> Line
+    ensures { λ r. ⌜ r ≡ lineOf (leafText number leaf) ⌝ }
 {
+    let numbers = numbers_of(leaf);
     with_numbers(with_decimal(starting(b""), number, DIGITS), &numbers)
 }
 
 // The line of the leaf with so many before it, whose record the leaf table holds.
 fn leaf_at(table: &[u64], i: usize) -> Line
     requires { ⌜ recordNumbers * i + recordNumbers ≤ length (now table) ⌝ }
-    ensures { λ r. ⌜ r ≡ lineOf (leafText (i + 1) (take recordNumbers (drop (recordNumbers * i) (now (table .entry))))) ⌝ }
+    ensures { λ r. ⌜ r ≡ lineOf (leafText (i + 1) (recordAt (now (table .entry)) i)) ⌝ }
 {
-    let at = NUMBERS * i;
-    let numbers = [
-        table[at],
-        table[at + 1],
-        table[at + 2],
-        table[at + 3],
-        table[at + 4],
-        table[at + 5],
-    ];
-    leaf_line((i + 1) as u64, numbers)
+    let leaf = record_at(table, i);
+    leaf_line((i + 1) as u64, leaf)
 }
 
 // The line of the leaf with so many before it, from its record in the leaf table; empty where the table holds no such record.

@@ -1,21 +1,19 @@
 // A time looked up in the leaf table of an accepted segment.
 ghost use mathlib.Core.Path.{_≡_};
-ghost use Prim.Native.Nat.{_+_, _*_, _≤_, _<_};
+ghost use Prim.Native.Nat.{_+_, _*_, _≤_};
 ghost use lib.Dec.{ltb};
 ghost use lib.ListN.{length};
 ghost use Rattle.basics.specs.Choose.{pick};
-ghost use Rattle.segment.specs.Constants.{recordNumbers};
 ghost use Rattle.machine.specs.Faults.{refusal};
-ghost use Rattle.lookup.specs.Lookup.{recordAt, covers, outside, lookIn, lookupState, lookupOf};
+ghost use Rattle.table.specs.Table.{recordNumbers, recordAt};
+ghost use Rattle.covering.specs.Lookup.{recordCovers, outside, lookIn, lookupState, lookupOf};
+ghost use Rattle.covering.specs.declared.LookupAnswer.the-variants as answer;
+use covering::LookupAnswer;
 use machine::Refusal;
-use state::NUMBERS;
 use state::State;
-
-// Where in a record its start stands.
-const START: usize = 2;
-
-// Where in a record its duration stands.
-const DURATION: usize = 3;
+use table::DURATION;
+use table::NUMBERS;
+use table::START;
 
 // Refused: a number of the state is out of its range.
 const OUT_OF_RANGE: u64 = 2;
@@ -32,48 +30,17 @@ const PAST: u64 = 24;
 // Refused: the table is shorter than the list.
 const SHORT_TABLE: u64 = 25;
 
-// The six numbers of a leaf, as they stand in the leaf table.
-pub struct Record {
-    pub position: u64,
-    pub size: u64,
-    pub start: u64,
-    pub duration: u64,
-    pub sap: u64,
-    pub time: u64,
-}
-
-// The leaf's number, from 1, and its record; or a refusal.
-pub enum LookupAnswer {
-    Found(u64, Record),
-    Refused(Refusal),
-}
-
 // A lookup reads no byte of the segment: it refuses at place 0.
 fn refused(number: u64) -> LookupAnswer
-    ensures { λ r. ⌜ r ≡ LookupAnswer.Refused (refusal number 0) ⌝ }
+    ensures { λ r. ⌜ r ≡ answer.Refused (refusal number 0) ⌝ }
 {
     LookupAnswer::Refused(Refusal { number, place: 0 })
 }
 
-fn record_at(table: &[u64], i: usize) -> Record
-    requires { ⌜ recordNumbers * i + 5 < length (now table) ⌝ }
-    ensures { λ r. ⌜ r ≡ recordAt (now (table .entry)) i ⌝ }
-{
-    let at = NUMBERS * i;
-    Record {
-        position: table[at],
-        size: table[at + 1],
-        start: table[at + START],
-        duration: table[at + DURATION],
-        sap: table[at + 4],
-        time: table[at + 5],
-    }
-}
-
 // Whether record i covers t. The end is not computed, since it may not fit.
 fn covers_at(table: &[u64], i: usize, t: u64) -> bool
-    requires { ⌜ recordNumbers * i + 5 < length (now table) ⌝ }
-    ensures { λ r. ⌜ r ≡ covers (recordAt (now (table .entry)) i) t ⌝ }
+    requires { ⌜ recordNumbers * i + recordNumbers ≤ length (now table) ⌝ }
+    ensures { λ r. ⌜ r ≡ recordCovers (recordAt (now (table .entry)) i) t ⌝ }
 {
     let start = table[NUMBERS * i + START];
     if t < start {
@@ -109,7 +76,7 @@ fn look_in(leaves: usize, table: &[u64], t: u64) -> LookupAnswer
     let mut i: usize = 0;
     while i < leaves {
         if covers_at(table, i, t) {
-            return LookupAnswer::Found((i + 1) as u64, record_at(table, i));
+            return LookupAnswer::Found((i + 1) as u64, records::record_at(table, i));
         }
         i += 1;
     }
@@ -118,7 +85,7 @@ fn look_in(leaves: usize, table: &[u64], t: u64) -> LookupAnswer
 
 // The leaves are counted by a quotient, since six numbers a leaf may not fit.
 fn look_among(leaves: u64, table: &[u64], t: u64) -> LookupAnswer
-    ensures { λ r. ⌜ r ≡ pick (ltb (length (now (table .entry))) (recordNumbers * leaves)) (LookupAnswer.Refused (refusal 25 0)) (lookIn leaves (now (table .entry)) t) ⌝ }
+    ensures { λ r. ⌜ r ≡ pick (ltb (length (now (table .entry))) (recordNumbers * leaves)) (answer.Refused (refusal 25 0)) (lookIn leaves (now (table .entry)) t) ⌝ }
 {
     let held = table.len() / NUMBERS;
     if (held as u64) < leaves {

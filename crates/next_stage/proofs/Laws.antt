@@ -1,11 +1,11 @@
 -- What follows the top index, a leaf that is listed, and a byte of the first box of an index entry.
-use Prim.Native.Nat.{ℕ, _+_, _*_}
+use Prim.Native.Nat.{ℕ, _+_}
 use mathlib.Core.Path.{_≡_, refl, ap, sym, _∙_}
 use mathlib.Core.List.{List}
 use native.Mathlib.Numerals.{add-one}
 use borrow.Author.Tests.{eq-eqb, ne-eqb}
 use Rattle.basics.proofs.Picks.{pick-yes, pick-no}
-use Rattle.segment.specs.Constants.{recordNumbers}
+use Rattle.table.specs.Table.{putRecord}
 use Rattle.machine.specs.Run.{go, lift}
 use Rattle.machine.specs.declared.Head.the-variants as at
 use Rattle.state.specs.declared.Top.{Top}
@@ -18,9 +18,9 @@ use Rattle.state.specs.declared.GapBoxes.the-variants as gaps
 use Rattle.state.specs.declared.InnerBox.{InnerBox}
 use Rattle.state.specs.declared.InnerBox.the-variants as inners
 use Rattle.state.specs.declared.Stage.the-variants as stage
-use Rattle.state.specs.Flow.{Flow, withNow, putAll, listed}
+use Rattle.state.specs.Flow.{Flow, withNow, listed}
 use Rattle.state.specs.Calls.{flowOf}
-use Rattle.state.specs.Stages.{follow, topOf, topLevel, indexEnds, leafRow, wrapInner, liftLeaf, liftInner}
+use Rattle.state.specs.Stages.{follow, topOf, topLevel, indexEnds, leafRecord, wrapInner, liftLeaf, liftInner}
 use Rattle.leaf.specs.Leaf.{viewLeaf}
 use Rattle.leaf.specs.declared.LeafStep.the-variants as leaves
 use Rattle.inner.specs.Views.{boxOf, viewInner}
@@ -44,13 +44,13 @@ module _ (x : Index) (f : Flow) (n : ℕ) where
 module _ (top : Top) (ls : Levels) (slot : Slot) (r : Running) (work table : List ℕ) where
   -- a leaf is listed
   pub leaf-done : (seen : Seen) (p : StageStep) →
-      viewStage (r .leaves) work (putAll table (recordNumbers * r .leaves) (leafRow slot (r .now) (seen .first))) p
-      ≡ follow top ls (flowOf (r .leaves + 1) (slot .until) (seen .last) work (putAll table (recordNumbers * r .leaves) (leafRow slot (r .now) (seen .first)))) →
+      viewStage (r .leaves) work (putRecord table (r .leaves) (leafRecord slot (r .now) (seen .first))) p
+      ≡ follow top ls (flowOf (r .leaves + 1) (slot .until) (seen .last) work (putRecord table (r .leaves) (leafRecord slot (r .now) (seen .first)))) →
       viewStage (r .leaves) work (tableAfter (r .leaves) slot (r .now) (leaves.Done seen) table) p ≡ liftLeaf top ls slot (viewLeaf (flowing r work table) (leaves.Done seen))
   unfolding tableAfter lift listed
   leaf-done seen p e =
       e
-      ∙ ap (λ (k : ℕ). follow top ls (flowOf k (slot .until) (seen .last) work (putAll table (recordNumbers * r .leaves) (leafRow slot (r .now) (seen .first))))) (add-one (r .leaves))
+      ∙ ap (λ (k : ℕ). follow top ls (flowOf k (slot .until) (seen .last) work (putRecord table (r .leaves) (leafRecord slot (r .now) (seen .first))))) (add-one (r .leaves))
 
 pub wrap-box : (s : InnerBox) → wrapInner (boxOf s) ≡ s
 wrap-box (inners.Head h) = refl

@@ -9,8 +9,8 @@ use Rattle.next_stage.proofs.opening_after.Kinds as opening-after-kinds
 use Rattle.next_stage.proofs.opening_after.Reads as opening-after-stated
 use Rattle.next_stage.proofs.gap_after.Kinds as gap-after-kinds
 use Rattle.next_stage.proofs.gap_after.Reads as gap-after-stated
-use Rattle.next_stage.proofs.row_after.Kinds as row-after-kinds
-use Rattle.next_stage.proofs.row_after.Reads as row-after-stated
+use Rattle.next_stage.proofs.record_after.Kinds as record-after-kinds
+use Rattle.next_stage.proofs.record_after.Reads as record-after-stated
 use Rattle.next_stage.proofs.leaf_after.Kinds as leaf-after-kinds
 use Rattle.next_stage.proofs.leaf_after.Reads as leaf-after-stated
 use Rattle.next_stage.proofs.inner_after.Kinds as inner-after-kinds
@@ -28,9 +28,9 @@ gap-after-once = record {
 }
 
 -- of one count of leaves, slot, time, answer of a leaf and table: one table after the call, number by number
-pub row-after-once : Coincide 1 row-after-kinds.ps row-after-kinds.r row-after-stated.Post
-row-after-once κs given r r' left left' p q =
-    (refl, ap (λ (t : List ℕ). after 1 row-after-kinds.ps row-after-kinds.r κs given (tt, (tt, (tt, (tt, (t, tt)))))) (p ∙ sym q))
+pub record-after-once : Coincide 1 record-after-kinds.ps record-after-kinds.r record-after-stated.Post
+record-after-once κs given r r' left left' p q =
+    (refl, ap (λ (t : List ℕ). after 1 record-after-kinds.ps record-after-kinds.r κs given (tt, (tt, (tt, (tt, (t, tt)))))) (p ∙ sym q))
 
 -- of one top index, open indexes, slot, what flows and one answer of a leaf: one step
 pub leaf-after-once : Coincide 0 leaf-after-kinds.ps leaf-after-kinds.r leaf-after-stated.Post

@@ -1,7 +1,8 @@
 -- What a stage makes of the answer of its part, and what is left in the leaf table.
-use Prim.Native.Nat.{ℕ, _+_, _*_, _<_}
+use Prim.Native.Nat.{ℕ, _+_, _<_}
 use mathlib.Core.List.{List}
-use Rattle.segment.specs.Constants.{recordNumbers, timeLimit}
+use Rattle.segment.specs.Constants.{timeLimit}
+use Rattle.table.specs.Table.{putRecord}
 use Rattle.machine.specs.Run.{Sub, bad, lift}
 use Rattle.state.specs.declared.Top.{Top}
 use Rattle.state.specs.declared.Level.{Level}
@@ -12,8 +13,8 @@ use Rattle.state.specs.declared.OpeningBoxes.{OpeningBoxes}
 use Rattle.state.specs.declared.GapBoxes.{GapBoxes}
 use Rattle.state.specs.declared.Stage.{Stage}
 use Rattle.state.specs.declared.Stage.the-variants as stage
-use Rattle.state.specs.Flow.{Flow, Left, putAll}
-use Rattle.state.specs.Stages.{follow, indexEnds, leafRow}
+use Rattle.state.specs.Flow.{Flow, Left}
+use Rattle.state.specs.Stages.{follow, indexEnds, leafRecord}
 use Rattle.opening.specs.declared.OpeningStep.{OpeningStep}
 use Rattle.opening.specs.declared.OpeningStep.the-variants as openings
 use Rattle.leaf.specs.declared.LeafStep.{LeafStep}
@@ -38,5 +39,5 @@ liftGap top l end r = lift (stage.Gap top l end) (λ u g. follow top (levels.One
 -- a leaf that is done has its record in the table
 unfoldable pub tableAfter : ℕ → Slot → ℕ → LeafStep → List ℕ → List ℕ
 tableAfter count slot at (leaves.Go s) table = table
-tableAfter count slot at (leaves.Done seen) table = putAll table (recordNumbers * count) (leafRow slot at (seen .first))
+tableAfter count slot at (leaves.Done seen) table = putRecord table count (leafRecord slot at (seen .first))
 tableAfter count slot at (leaves.Bad x) table = table

@@ -13,10 +13,11 @@ use state::Levels;
 use state::Slot;
 use state::Stage;
 use state::Top;
+use table::Record;
 ghost use mathlib.Core.Path.{_≡_};
 ghost use mathlib.Core.List.{List};
-ghost use Prim.Native.Nat.{ℕ, _≤_};
-ghost use Rattle.segment.specs.Constants.{mostRecords};
+ghost use Prim.Native.Nat.{ℕ, _-_, _≤_};
+ghost use Rattle.table.specs.Table.{mostRecords};
 ghost use Rattle.state.specs.Stages as defs;
 ghost use Rattle.levels.specs.Views.{openOf};
 ghost use Rattle.opening.specs.Views.{viewOpening, viewGap};
@@ -126,15 +127,39 @@ pub fn gap_after(top: Top, level: Level, end: u64, r: Running, q: GapStep) -> St
     }
 }
 
+// What is left of `a` without `b`, and 0 where `b` is more.
+fn less(a: u64, b: u64) -> u64
+    ensures { λ r. ⌜ r ≡ a - b ⌝ }
+{
+    if a < b {
+        return 0;
+    }
+    a - b
+}
+
+// The record of a leaf in its slot that starts at `at`, with its first decode time.
+fn leaf_record(slot: Slot, at: u64, first: u64) -> Record
+    ensures { λ r. ⌜ r ≡ defs.leafRecord slot at first ⌝ }
+{
+    Record {
+        position: slot.pos,
+        size: less(slot.end, slot.pos),
+        start: at,
+        duration: less(slot.until, at),
+        sap: slot.sap,
+        time: first,
+    }
+}
+
 // The record of a leaf that is done.
-pub fn row_after(leaves: u64, slot: Slot, at: u64, q: LeafStep, table: &mut [u64])
+pub fn record_after(leaves: u64, slot: Slot, at: u64, q: LeafStep, table: &mut [u64])
     requires { ⌜ leaves ≤ mostRecords ⌝ }
     ensures { λ _. ⌜ now (table .exit) ≡ tableAfter leaves slot at q (now (table .entry)) ⌝ }
 {
     match q {
         LeafStep::Go(_) => {}
         LeafStep::Done(seen) => {
-            levels::put_row(table, leaves, slot, at, seen.first);
+            records::put_record(table, leaves, leaf_record(slot, at, seen.first));
         }
         LeafStep::Bad(_) => {}
     }

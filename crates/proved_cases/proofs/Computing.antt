@@ -2,6 +2,7 @@
 use Rattle.proved_cases.specs.Segments
 use Rattle.basics.specs.Bytes
 use Rattle.basics.specs.Choose
+use Rattle.basics.specs.Put
 use Rattle.segment.specs.Boxes
 use Rattle.segment.specs.Leaves
 use Rattle.segment.specs.Tree
@@ -10,6 +11,7 @@ use Rattle.machine.specs.Heads
 use Rattle.machine.specs.Lists
 use Rattle.machine.specs.Limit
 use Rattle.machine.specs.Run
+use Rattle.table.specs.Table
 use Rattle.state.specs.Calls
 use Rattle.state.specs.Flow
 use Rattle.state.specs.Leaf as StepLeaf
@@ -21,8 +23,8 @@ use Rattle.state.specs.Sidx as StepSidx
 use Rattle.state.specs.Stages
 use Rattle.state.specs.Step
 use Rattle.state.specs.Traf
-use Rattle.lookup.specs.Lookup
-use Rattle.lookup.specs.Rows as LookupRows
+use Rattle.covering.specs.Lookup
+use Rattle.covering.specs.Records
 use Rattle.descent.specs.Leaf as DescentLeaf
 use Rattle.descent.specs.Opening as DescentOpening
 use Rattle.descent.specs.Sidx as DescentSidx
@@ -54,7 +56,7 @@ unfolding
     Lists.headed Lists.stepBox Lists.goOn
     Run.lift
     Calls.stateOf Calls.workOf Calls.tableOf Calls.answerOf Calls.feedState Calls.feedOf Calls.finishState Calls.finishOf Calls.finishAfter
-    Flow.room Flow.putAll Flow.listed
+    Put.putAll Table.room Flow.listed
     StepLeaf.seenNow StepLeaf.beginMoof StepLeaf.stepMoofBody StepLeaf.moofNext StepLeaf.stepMoof StepLeaf.beginLeaf StepLeaf.stepLeafBody StepLeaf.leafNow StepLeaf.leafLacks StepLeaf.leafNext StepLeaf.stepLeaf
     Levels.entryAt Levels.inmost Levels.depth Levels.tookEntry Levels.push Levels.stillOne Levels.stillTwo Levels.stillThree Levels.stillOpen Levels.altered
     StepOpening.brandsFrom StepOpening.stypEnds StepOpening.beginOpening StepOpening.stepOpeningBody StepOpening.closeOpening StepOpening.stepOpening
@@ -79,5 +81,5 @@ theDescent = tt
 -- the lookup, and the records of leaves
 unfoldable pub theLookup : Unit {0}
 unfolding
-    Lookup.recordAt Lookup.covers Lookup.coveringFrom Lookup.outside Lookup.found Lookup.lookupState Lookup.lookupOf LookupRows.rowsOf
+    Table.recordAt Lookup.recordCovers Lookup.coveringFrom Lookup.outside Lookup.found Lookup.lookupState Lookup.lookupOf Records.recordsOf
 theLookup = tt

@@ -8,7 +8,7 @@ use lib.Dec.{ltb}
 use lib.ListN.{length, take, drop}
 use borrow.Author.Tests.{le-ltb}
 use Rattle.machine.specs.Faults.{refusal}
-use Rattle.lookup.specs.Rows.{rowsOf}
+use Rattle.covering.specs.Records.{recordsOf}
 use Rattle.proved_cases.specs.Segments.{S, sWith, T, tWith}
 use Rattle.proved_cases.specs.Cases.{work0, table0, leafAt, workS, workT, acceptedState, IsAccepted, IsRefused, firstOfS, leavesOfS, LookedUp, LookupInS}
 use Rattle.proved_cases.proofs.Computing.{theSegments, theTree, theDescent, theLookup}
@@ -19,14 +19,14 @@ unfolding theSegments theTree theDescent theLookup
 s-accepted = record { counted = refl; tree = refl; fed = refl; descended = refl }
 
 -- a table that starts with two records is long enough for the two leaves
-looked-up : (behind : List ℕ) → LookedUp (acceptedState 196 leavesOfS) (rowsOf leavesOfS ++ behind)
+looked-up : (behind : List ℕ) → LookedUp (acceptedState 196 leavesOfS) (recordsOf leavesOfS ++ behind)
 unfolding theDescent theLookup
 looked-up behind =
-    let fits : ltb (length (rowsOf leavesOfS ++ behind)) 12 ≡ false = le-ltb (length (rowsOf leavesOfS ++ behind)) 12 (omega arith) in
+    let fits : ltb (length (recordsOf leavesOfS ++ behind)) 12 ≡ false = le-ltb (length (recordsOf leavesOfS ++ behind)) 12 (omega arith) in
     record { at-4999 = rw fits; at-5000 = rw fits; at-6999 = rw fits; at-7000 = rw fits; at-9999 = rw fits; at-10000 = rw fits }
 
 -- the records of S's leaves, number by number
-rows-of-s : rowsOf leavesOfS ≡ 76 ∷ 60 ∷ 5000 ∷ 2000 ∷ 2415919104 ∷ 100 ∷ 136 ∷ 60 ∷ 7000 ∷ 3000 ∷ 2415919104 ∷ 2100 ∷ []
+rows-of-s : recordsOf leavesOfS ≡ 76 ∷ 60 ∷ 5000 ∷ 2000 ∷ 2415919104 ∷ 100 ∷ 136 ∷ 60 ∷ 7000 ∷ 3000 ∷ 2415919104 ∷ 2100 ∷ []
 unfolding theLookup
 rows-of-s = refl
 

@@ -5,7 +5,7 @@ use mathlib.Core.Path.{_≡_}
 use mathlib.Core.List.{List, [], _∷_, _++_}
 use mathlib.Core.Option.{Option, some, none}
 use lib.ListN.{length, replicate, drop}
-use Rattle.segment.specs.Constants.{recordNumbers}
+use Rattle.table.specs.Table.{recordNumbers}
 use Rattle.segment.specs.Tree.{Leaf, segment}
 use Rattle.machine.specs.Faults.{refusal}
 use Rattle.machine.specs.declared.Refusal.{Refusal}
@@ -15,9 +15,9 @@ use Rattle.state.specs.declared.State.the-variants as state
 use Rattle.state.specs.declared.FinishAnswer.{FinishAnswer}
 use Rattle.state.specs.declared.FinishAnswer.the-variants as finishes
 use Rattle.descent.specs.Whole.{wholeD}
-use Rattle.lookup.specs.Lookup.{lookupOf}
-use Rattle.lookup.specs.Rows.{recordOf, rowsOf}
-use Rattle.lookup.specs.declared.LookupAnswer.the-variants as lookups
+use Rattle.covering.specs.Lookup.{lookupOf}
+use Rattle.covering.specs.Records.{recordOf, recordsOf}
+use Rattle.covering.specs.declared.LookupAnswer.the-variants as lookups
 use Rattle.proved_cases.specs.Segments.{msdh, sapWord, entry, S}
 
 -- what is lent
@@ -44,7 +44,7 @@ leafAt position start duration time = record { position = position; size = 60; s
 
 -- the leaf table with these leaves listed: its other numbers stay
 abbrev pub tableWith : List Leaf → List ℕ
-tableWith leaves = rowsOf leaves ++ drop (recordNumbers * length leaves) table0
+tableWith leaves = recordsOf leaves ++ drop (recordNumbers * length leaves) table0
 
 -- the work area once S's index was read, and once T's two were read, the top entry with its duration
 abbrev pub workS : List ℕ
@@ -103,6 +103,6 @@ pub record LookedUp (s : State) (table : List ℕ) : Type 0 where
 -- nothing but these twelve numbers too.
 pub record LookupInS : Type 0 where
   pub accepts : IsAccepted S 196 leavesOfS workS
-  pub records : rowsOf leavesOfS ≡ 76 ∷ 60 ∷ 5000 ∷ 2000 ∷ 2415919104 ∷ 100 ∷ 136 ∷ 60 ∷ 7000 ∷ 3000 ∷ 2415919104 ∷ 2100 ∷ []
+  pub records : recordsOf leavesOfS ≡ 76 ∷ 60 ∷ 5000 ∷ 2000 ∷ 2415919104 ∷ 100 ∷ 136 ∷ 60 ∷ 7000 ∷ 3000 ∷ 2415919104 ∷ 2100 ∷ []
   pub in-left : LookedUp (byBytes S .state) (byBytes S .table)
-  pub in-any : (behind : List ℕ) → LookedUp (byBytes S .state) (rowsOf leavesOfS ++ behind)
+  pub in-any : (behind : List ℕ) → LookedUp (byBytes S .state) (recordsOf leavesOfS ++ behind)

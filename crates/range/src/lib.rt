@@ -3,7 +3,8 @@ ghost use mathlib.Core.Path.{_≡_};
 ghost use mathlib.Core.Bool.{_&&_};
 ghost use mathlib.Core.List.{[], _∷_, _++_};
 ghost use Prim.Native.Nat.{_+_, _^_, _<_};
-ghost use Rattle.segment.specs.Constants.{timeLimit, mostRecords};
+ghost use Rattle.segment.specs.Constants.{timeLimit};
+ghost use Rattle.table.specs.Table.{mostRecords};
 ghost use Rattle.state.specs.Levels.{inmost};
 ghost use Rattle.state.specs.Sidx.{wideMore};
 ghost use Rattle.state.specs.declared.Levels.{Levels};
@@ -25,7 +26,6 @@ use state::LeafBoxes;
 use state::Level;
 use state::Levels;
 use state::MOST_ENTRIES;
-use state::MOST_RECORDS;
 use state::MoofBody;
 use state::MoofBoxes;
 use state::OpeningBody;
@@ -40,6 +40,7 @@ use state::Top;
 use state::TrafBody;
 use state::TrafBoxes;
 use state::TrafPart;
+use table::MOST_RECORDS;
 
 // Numbers of 32 bits are below this.
 const WORD: u64 = 4294967296;

@@ -29,21 +29,6 @@ typeBit = 2147483648
 abbrev pub mostEntries : ℕ
 mostEntries = 1024
 
--- the bytes of the work area, and of one level's part of it
-abbrev pub workBytes : ℕ
-workBytes = 49152
-
-abbrev pub levelBytes : ℕ
-levelBytes = 12288
-
--- the numbers of a leaf's record
-abbrev pub recordNumbers : ℕ
-recordNumbers = 6
-
--- the most records a leaf table takes
-abbrev pub mostRecords : ℕ
-mostRecords = 4096
-
 -- the types of boxes that are known, each the number that its four letters spell
 abbrev pub styp : ℕ
 styp = 0x73_74_79_70

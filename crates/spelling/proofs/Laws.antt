@@ -12,12 +12,13 @@ use lib.Seq.{length-take-le, take-all}
 use Rattle.basics.specs.Bytes.{numberFrom, AllBytes}
 use Rattle.basics.specs.Choose.{pick}
 use Rattle.basics.proofs.Picks.{pick-holds}
-use Rattle.segment.specs.Constants.{limit, workBytes}
+use Rattle.segment.specs.Constants.{limit}
+use Rattle.state.specs.Flow.{workBytes}
 use Rattle.state.specs.declared.FeedAnswer.{FeedAnswer}
 use Rattle.state.specs.declared.Stage.{Stage}
 use Rattle.state.specs.declared.State.{State}
 use Rattle.state.specs.declared.State.the-variants as state
-use Rattle.state.specs.Flow.{putAll}
+use Rattle.basics.specs.Put.{putAll}
 use Rattle.state.specs.Step.{run}
 use Rattle.state.specs.Calls.{Out, flowOf, stateOf, fed, feedState}
 use Rattle.state.specs.Numbers.{stageNumber, stageOn, workOn, putIn, Short, Fits}

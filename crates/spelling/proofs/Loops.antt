@@ -6,7 +6,7 @@ use native.Mathlib.Omega.{arith}
 use lib.ListN.{length, getD, set, length-set, take, drop}
 use lib.Seq.{drop-cons}
 use Rattle.basics.specs.Bytes.{numberFrom}
-use Rattle.state.specs.Flow.{putAll}
+use Rattle.basics.specs.Put.{putAll}
 use Rattle.state.specs.Ranges.{Within, spelled}
 use Rattle.state.proofs.RangeTests.{spelled-next}
 

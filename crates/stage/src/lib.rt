@@ -8,7 +8,7 @@ use next_stage::gap_after;
 use next_stage::inner_after;
 use next_stage::leaf_after;
 use next_stage::opening_after;
-use next_stage::row_after;
+use next_stage::record_after;
 use state::GapBoxes;
 use state::InnerBox;
 use state::LeafBoxes;
@@ -24,7 +24,9 @@ ghost use mathlib.Core.Path.{_≡_};
 ghost use mathlib.Core.List.{List};
 ghost use Prim.Native.Nat.{ℕ, _≤_, _<_};
 ghost use lib.ListN.{length};
-ghost use Rattle.segment.specs.Constants.{limit, workBytes, mostRecords};
+ghost use Rattle.segment.specs.Constants.{limit};
+ghost use Rattle.state.specs.Flow.{workBytes};
+ghost use Rattle.table.specs.Table.{mostRecords};
 ghost use Rattle.state.specs.declared.Stage.the-variants as stages;
 ghost use Rattle.state.specs.Ranges.{Within, openingBounds, gapBounds, leafBounds, levelsBounds, innerBounds, stageBounds};
 ghost use Rattle.state.specs.Levels.{inmost};
@@ -81,9 +83,9 @@ fn leaf_stage(
         ≡ defs.stepStage (stages.Leaf top ls slot s) (flowing r work (now (table .entry))) n b)
         ⌝ }
 {
-    let full = levels::no_room(r.leaves, table.len());
+    let full = records::no_room(r.leaves, table.len());
     let q = leaf::leaf_byte(top.id, slot, full, s, n, b);
-    row_after(r.leaves, slot, r.now, q, table);
+    record_after(r.leaves, slot, r.now, q, table);
     leaf_after(top, ls, slot, r, q)
 }
 

@@ -12,14 +12,13 @@ use borrow.Author.Tests.{lt-ltb, le-ltb}
 use Rattle.basics.specs.Bytes.{AllBytes}
 use Rattle.basics.proofs.Picks.{lt-or-ge, pick-yes, pick-no}
 use Rattle.basics.proofs.Bytes.{bytes-first, bytes-second}
-use Rattle.segment.specs.Constants.{workBytes}
 use Rattle.machine.specs.Faults.{refusal}
 use Rattle.machine.specs.declared.Refusal.{Refusal}
 use Rattle.state.specs.declared.State.{State}
 use Rattle.state.specs.declared.State.the-variants as state
 use Rattle.state.specs.declared.FeedAnswer.{FeedAnswer}
 use Rattle.state.specs.declared.FeedAnswer.the-variants as feeds
-use Rattle.state.specs.Flow.{Left}
+use Rattle.state.specs.Flow.{Left, workBytes}
 use Rattle.state.specs.Step.{World, reading, ended, refused, step, run}
 use Rattle.state.specs.Ranges.{inRange}
 use Rattle.state.specs.Calls.{Out, out, flowOf, leftOf, fed, stateOf, workOf, tableOf, answerOf, feedState, feedOf}

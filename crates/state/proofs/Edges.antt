@@ -2,7 +2,7 @@
 -- record says, which sums are compared and how, and which of two faults of one byte is given.
 use Prim.Native.Nat.{ℕ, _+_, _-_, _*_, _≤_, _<_}
 use mathlib.Core.Path.{_≡_, refl}
-use mathlib.Core.List.{[], _∷_}
+use mathlib.Core.List.{[]}
 use mathlib.Core.Option.{Option, none}
 use mathlib.Core.Bool.{Bool, true, not, _&&_, _||_}
 use native.Mathlib.Omega.{arith}
@@ -30,7 +30,7 @@ use Rattle.state.specs.Flow.{Flow, Left, left, withNow}
 use Rattle.state.specs.Sidx.{Place, topmost, under, countFaults, sumFaults, fieldEnds}
 use Rattle.state.specs.Traf.{timed, fallFaults, trafNow, lacking, trafNext, trafBoxes, wrapTraf}
 use Rattle.state.specs.Levels.{Entry, inmost, stillOne, stillOpen, slotOf}
-use Rattle.state.specs.Stages.{onward, topOf, indexEnds, leafRow}
+use Rattle.state.specs.Stages.{onward, topOf, indexEnds, leafRecord}
 use Rattle.state.proofs.BoxLengths.{six-before}
 
 -- After the top index: the time at which the next entry starts, and where the material starts and ends, when the index ended at `n`.
@@ -92,7 +92,8 @@ material-ends x f n some-entry =
 
 -- The record of a leaf whose first byte is byte `n`, when the time line stands at `now`: that place and that time, and the rest as its
 -- entry says.
-pub leaf-record : (e : Entry) (now n first : ℕ) → leafRow (slotOf e now n) now first ≡ n ∷ e .size ∷ now ∷ e .duration ∷ e .sap ∷ first ∷ []
+pub leaf-record : (e : Entry) (now n first : ℕ) → leafRecord (slotOf e now n) now first ≡
+    record { position = n; size = e .size; start = now; duration = e .duration; sap = e .sap; time = first }
 leaf-record e now n first =
     let size : n + e .size - n ≡ e .size = omega arith in
     let duration : now + e .duration - now ≡ e .duration = omega arith in

@@ -1,16 +1,19 @@
 -- Nothing changes but what is lent for it: a byte changes at most its own place of the work area, and at most one record of the leaf table.
-use Prim.Native.Nat.{ℕ, zero, suc, _+_, _*_, _≤_, _<_}
+use Prim.Native.Nat.{ℕ, zero, suc, _+_, _*_, _≤_}
 use mathlib.Core.Path.{_≡_, refl, ap, sym, _∙_}
 use mathlib.Core.List.{List, [], _∷_}
 use mathlib.Core.Option.{Option, some, none}
 use mathlib.Core.Logic.{_≢_}
 use mathlib.Core.Bool.{Bool, true, false, _||_}
 use lib.Dec.{eqb, leb, ltb}
-use lib.ListN.{length, set, getD, length-set}
+use lib.ListN.{length, getD, length-set}
 use lib.Seq.{getD-set-other}
 use native.Mathlib.Omega.{arith}
+use Rattle.basics.proofs.Put.{put-length, put-before, put-past}
+use Rattle.table.specs.declared.Record.{Record}
 use Rattle.basics.specs.Choose.{pick}
-use Rattle.segment.specs.Constants.{limit, workBytes, recordNumbers, moof, traf, tfhd, tfdt, styp, sidx}
+use Rattle.segment.specs.Constants.{limit, moof, traf, tfhd, tfdt, styp, sidx}
+use Rattle.table.specs.Table.{recordNumbers, putRecord, numbersOf}
 use Rattle.machine.specs.Faults.{refusal, shows, unless}
 use Rattle.machine.specs.Run.{Sub, go, done, bad, lift}
 use Rattle.machine.specs.Heads.{boxEnd}
@@ -67,7 +70,7 @@ use Rattle.state.specs.declared.State.the-variants as state
 use Rattle.state.specs.declared.FeedAnswer.{FeedAnswer}
 use Rattle.state.specs.declared.FeedAnswer.the-variants as feeds
 use Rattle.state.specs.Ranges.{inRange}
-use Rattle.state.specs.Flow.{Flow, Left, left, withNow, putAll, listed}
+use Rattle.state.specs.Flow.{Flow, Left, left, withNow, listed, workBytes}
 use Rattle.state.specs.Rows.{is}
 use Rattle.state.specs.Sidx as indexes
 use Rattle.state.specs.Sidx.{Place, topmost, under, sumFaults, indexOf, closeSidx, fieldEnds, entryEnds, keepByte, stepSidx}
@@ -76,7 +79,7 @@ use Rattle.state.specs.Traf.{nothing, trafEnds, beginTraf, stepTrafBody,
 use Rattle.state.specs.Leaf.{skipped, seeing, beginMoof, stepMoofBody, moofKind, moofNext, moofBoxes, wrapMoof, stepMoof, beginMoofBoxes, beginLeaf, stepLeafBody, leafKind, leafBoxes, wrapLeaf, stepLeaf, leafSo0}
 use Rattle.state.specs.Opening.{passed, indexed, spanOf, unlisted, brandsFrom, stypEnds, beginOpening, stepOpeningBody, openingBox, opening, wrapOpening, stepOpening}
 use Rattle.state.specs.Levels.{Entry, entryAt, entryPlace, inmost, depth, tookEntry, push, stillOpen, entryFaults, slotOf}
-use Rattle.state.specs.Stages.{gapKind, gapBoxes, wrapGap, stepGap, onward, follow, topOf, topLevel, indexEnds, InnerBody, innerKind, innerLevel, stepInner, leafRow, liftLeaf, stepInLeaf, stepSlot, stepEntry, stepStage}
+use Rattle.state.specs.Stages.{gapKind, gapBoxes, wrapGap, stepGap, onward, follow, topOf, topLevel, indexEnds, InnerBody, innerKind, innerLevel, stepInner, leafRecord, liftLeaf, stepInLeaf, stepSlot, stepEntry, stepStage}
 use Rattle.state.specs.Places.{sidxByte, openingBodyByte, openingByte, stageByte, storedAt}
 use Rattle.state.specs.Step.{World, reading, ended, refused, settle, overLimit, leftOver, step, run}
 use Rattle.state.specs.Calls.{Out, out, flowOf, leftOf, fed, stateOf, workOf, tableOf, feedState, feedOf}
@@ -253,38 +256,18 @@ inner-body-left top ls slot s f n b =
     ∙ pass-left left (λ t. record { span = s .span; sidx = t }) (λ x. x) (stepSidx (under top slot (depth ls)) (s .span) (s .sidx) f n b)
     ∙ sidx-left (under top slot (depth ls)) (s .span) (s .sidx) f n b
 
--- Numbers put into a list change only their own places.
-
-put-length : (xs table : List ℕ) (i : ℕ) → length (putAll table i xs) ≡ length table
-unfolding putAll
-put-length [] table i = refl
-put-length (x ∷ xs) table i = put-length xs (set table i x) (suc i) ∙ length-set table i x
-
-put-before : (xs table : List ℕ) (i j : ℕ) → j < i → getD (putAll table i xs) j 0 ≡ getD table j 0
-unfolding putAll
-put-before [] table i j h = refl
-put-before (x ∷ xs) table i j h = put-before xs (set table i x) (suc i) j (omega arith) ∙ getD-set-other table i j x 0 (omega arith)
-
-put-past : (xs table : List ℕ) (i j : ℕ) → i + length xs ≤ j → getD (putAll table i xs) j 0 ≡ getD table j 0
-unfolding putAll
-put-past [] table i j h = refl
-put-past (x ∷ xs) table i j h = put-past xs (set table i x) (suc i) j (omega arith) ∙ getD-set-other table i j x 0 (omega arith)
-
 -- A table that stays, one with a further record, and one that grows twice.
 
 pub grown-same : (leaves : ℕ) (table : List ℕ) → Grown leaves table leaves table
 grown-same leaves table = record { more = omega arith; long = refl; before = λ j h. refl; past = λ j h. refl }
 
-grown-one : (leaves : ℕ) (table : List ℕ) (a b c d e g : ℕ) →
-    Grown leaves table (suc leaves) (putAll table (recordNumbers * leaves) (a ∷ b ∷ c ∷ d ∷ e ∷ g ∷ []))
-grown-one leaves table a b c d e g =
-    let row : List ℕ = a ∷ b ∷ c ∷ d ∷ e ∷ g ∷ [] in
-    record {
-      more = omega arith;
-      long = put-length row table (recordNumbers * leaves);
-      before = λ j h. put-before row table (recordNumbers * leaves) j h;
-      past = λ j h. put-past row table (recordNumbers * leaves) j (omega arith);
-    }
+grown-one : (leaves : ℕ) (table : List ℕ) (r : Record) → Grown leaves table (suc leaves) (putRecord table leaves r)
+grown-one leaves table r = record {
+  more = omega arith;
+  long = put-length (numbersOf r) table (recordNumbers * leaves);
+  before = λ j h. put-before (numbersOf r) table (recordNumbers * leaves) j h;
+  past = λ j h. put-past (numbersOf r) table (recordNumbers * leaves) j (omega arith);
+}
 
 pub grown-twice : (k : ℕ) (t : List ℕ) (k' : ℕ) (t' : List ℕ) (k'' : ℕ) (t'' : List ℕ) → Grown k t k' t' → Grown k' t' k'' t'' → Grown k t k'' t''
 grown-twice k t k' t' k'' t'' g h =
@@ -310,10 +293,10 @@ framed-none : (f : Flow) (b : ℕ) (l : Left) → l ≡ left f → Framed (left 
 unfolding storedAt
 framed-none f b l e = framed-storing f none b l e
 
-framed-listed : (f g : Flow) (b now first last : ℕ) (slot : Slot) → left g ≡ left f → Framed (left f) none b (left (listed g (leafRow slot now first) (slot .until) last))
+framed-listed : (f g : Flow) (b now first last : ℕ) (slot : Slot) → left g ≡ left f → Framed (left f) none b (left (listed g (leafRecord slot now first) (slot .until) last))
 unfolding storedAt listed
 framed-listed f g b now first last slot e =
-    rw (← e) (record { works = refl; one = omega arith; grown = grown-one (g .leaves) (g .table) (slot .pos) _ _ _ _ _ })
+    rw (← e) (record { works = refl; one = omega arith; grown = grown-one (g .leaves) (g .table) (leafRecord slot now first) })
 
 -- A byte of a leaf: its record is written at its last byte.
 
@@ -322,7 +305,7 @@ listing-framed : (top : Top) (ls : Levels) (slot : Slot) (f : Flow) (b : ℕ) (r
 unfolding lift leftIn
 listing-framed top ls slot f b (go s g) e = framed-none f b (left g) e
 listing-framed top ls slot f b (done seen g) e =
-    rw (onward-left top (stillOpen ls) (listed g (leafRow slot (g .now) (seen .first)) (slot .until) (seen .last))) (framed-listed f g b (g .now) (seen .first) (seen .last) slot e)
+    rw (onward-left top (stillOpen ls) (listed g (leafRecord slot (g .now) (seen .first)) (slot .until) (seen .last))) (framed-listed f g b (g .now) (seen .first) (seen .last) slot e)
 listing-framed top ls slot f b (bad x kept) e = framed-none f b kept e
 
 leaf-framed : (top : Top) (ls : Levels) (slot : Slot) (s : LeafBoxes) (f : Flow) (n b : ℕ) → Framed (left f) none b (leftIn left (stepInLeaf top ls slot s f n b))
@@ -433,7 +416,7 @@ onward-unlisted f top (some ls) g = tt
 listing-unlisted : (top : Top) (ls : Levels) (slot : Slot) (f : Flow) (r : Sub LeafBoxes Seen Flow Left) → leftIn left r ≡ left f → Unlisted f (liftLeaf top ls slot r)
 unfolding lift leftIn
 listing-unlisted top ls slot f (go s g) e = tt
-listing-unlisted top ls slot f (done seen g) e = onward-unlisted f top (stillOpen ls) (listed g (leafRow slot (g .now) (seen .first)) (slot .until) (seen .last))
+listing-unlisted top ls slot f (done seen g) e = onward-unlisted f top (stillOpen ls) (listed g (leafRecord slot (g .now) (seen .first)) (slot .until) (seen .last))
 listing-unlisted top ls slot f (bad x kept) e = (ap (λ (l : Left). l .leaves) e, ap (λ (l : Left). l .table) e)
 
 slot-unlisted : (top : Top) (ls : Levels) (inner : Bool) (slot : Slot) (f : Flow) (n b : ℕ) → Unlisted f (stepSlot top ls inner slot f n b)

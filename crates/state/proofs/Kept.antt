@@ -8,7 +8,8 @@ use native.Mathlib.Omega.{arith}
 use lib.ListN.{length}
 use Rattle.basics.specs.Bytes.{AllBytes}
 use Rattle.basics.proofs.Picks.{lt-or-ge, pick-yes, pick-no}
-use Rattle.segment.specs.Constants.{limit, workBytes}
+use Rattle.segment.specs.Constants.{limit}
+use Rattle.state.specs.Flow.{workBytes}
 use Rattle.machine.specs.Faults.{refusal}
 use Rattle.machine.specs.declared.Refusal.{Refusal}
 use Rattle.state.specs.declared.Stage.{Stage}

@@ -9,7 +9,7 @@ use native.Mathlib.Omega.{arith}
 use lib.ListN.{length}
 use Rattle.basics.specs.Bytes.{AllBytes}
 use Rattle.basics.proofs.Picks.{lt-or-ge}
-use Rattle.segment.specs.Constants.{workBytes}
+use Rattle.state.specs.Flow.{workBytes}
 use Rattle.machine.specs.Faults.{refusal}
 use Rattle.machine.specs.declared.Refusal.{Refusal}
 use Rattle.state.specs.declared.State.{State}

@@ -43,7 +43,8 @@ use Rattle.state.specs.declared.InnerBox.{InnerBox}
 use Rattle.state.specs.declared.InnerBox.the-variants as inners
 use Rattle.state.specs.declared.Stage.{Stage}
 use Rattle.state.specs.declared.Stage.the-variants as stage
-use Rattle.state.specs.Flow.{Flow, Left, left, withWork, stored, putAll}
+use Rattle.state.specs.Flow.{Flow, Left, left, withWork, stored}
+use Rattle.basics.specs.Put.{putAll}
 use Rattle.state.specs.Levels.{depth}
 use Rattle.state.specs.Sidx.{Place, topmost, under, stepSidx, nextByte}
 use Rattle.state.specs.Traf.{stepTrafBody, trafBoxes, wrapTraf, stepTraf}

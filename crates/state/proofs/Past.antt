@@ -6,7 +6,7 @@ use mathlib.Core.Option.{some}
 use native.Mathlib.Omega.{arith}
 use lib.ListN.{length, getD}
 use Rattle.basics.specs.Bytes.{AllBytes}
-use Rattle.segment.specs.Constants.{workBytes, levelBytes}
+use Rattle.state.specs.Flow.{workBytes, levelBytes}
 use Rattle.state.specs.declared.Sidx.{Sidx}
 use Rattle.state.specs.declared.Sidx.the-variants as sidx
 use Rattle.state.specs.declared.OpeningBody.{OpeningBody}

@@ -34,7 +34,8 @@ use Rattle.state.specs.declared.Sums.{Sums}
 use Rattle.state.specs.declared.EntryPart.{EntryPart}
 use Rattle.state.specs.declared.Sidx.{Sidx}
 use Rattle.state.specs.declared.Sidx.the-variants as indexes
-use Rattle.state.specs.Flow.{Flow, Left, left, room}
+use Rattle.state.specs.Flow.{Flow, Left, left}
+use Rattle.table.specs.Table.{room}
 use Rattle.state.specs.Rows.{is, topLengths, openingFaults, gapFaults, noRoom, leafFaults, innerFaults, fresh, headedTrack, trafFaults}
 use Rattle.state.specs.Opening.{passed, brandsFrom, stypEnds}
 use Rattle.state.specs.Sidx.{Place, scaleFaults, keepByte}

@@ -24,7 +24,7 @@ use Rattle.state.specs.declared.GapBoxes.the-variants as gaps
 use Rattle.state.specs.declared.InnerBox.the-variants as inners
 use Rattle.state.specs.declared.Stage.{Stage}
 use Rattle.state.specs.declared.Stage.the-variants as stage
-use Rattle.state.specs.Flow.{putAll}
+use Rattle.basics.specs.Put.{putAll}
 use Rattle.state.specs.Sidx.{Place, topmost, under}
 use Rattle.state.specs.Levels.{depth}
 use Rattle.state.specs.Places.{sidxByte, openingBodyByte, openingByte, stageByte, storedAt}

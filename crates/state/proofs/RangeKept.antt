@@ -8,7 +8,8 @@ use native.Mathlib.Omega.{arith}
 use lib.Dec.{eqb}
 use Rattle.basics.specs.Choose.{pick}
 use Rattle.basics.proofs.Picks.{pick-holds}
-use Rattle.segment.specs.Constants.{limit, mostRecords}
+use Rattle.segment.specs.Constants.{limit}
+use Rattle.table.specs.Table.{mostRecords}
 use Rattle.machine.specs.Faults.{shows, lowest, unless}
 use Rattle.machine.specs.Run.{Sub, done, bad}
 use Rattle.machine.specs.Heads.{underEight, underSixteen, sizeFaults, sized, stepHead}

@@ -8,7 +8,7 @@ use lib.Dec.{eqb, ltb, leb}
 use lib.ListN.{length}
 use borrow.Author.Tests.{ltb-false, leb-false}
 use Rattle.basics.proofs.Picks.{pick-holds}
-use Rattle.segment.specs.Constants.{limit, mostRecords, recordNumbers, tfhd, tfdt, traf, moof}
+use Rattle.segment.specs.Constants.{limit, tfhd, tfdt, traf, moof}
 use Rattle.machine.specs.Run.{Sub, done, bad}
 use Rattle.machine.specs.Heads.{boxEnd}
 use Rattle.machine.specs.Lists.{Box, inHead, inBody, stepBoxes}
@@ -38,7 +38,8 @@ use Rattle.state.specs.declared.LeafBody.{LeafBody}
 use Rattle.state.specs.declared.LeafBody.the-variants as leaves
 use Rattle.state.specs.declared.LeafBoxes.{LeafBoxes}
 use Rattle.state.specs.declared.LeafBoxes.the-variants as leafBox
-use Rattle.state.specs.Flow.{Flow, Left, left, room}
+use Rattle.state.specs.Flow.{Flow, Left, left}
+use Rattle.table.specs.Table.{room, mostRecords, recordNumbers}
 use Rattle.state.specs.Rows.{is, topLengths, trafFaults, leafFaults, noRoom}
 use Rattle.state.specs.Opening.{spanOf}
 use Rattle.state.specs.Traf.{Gave, nothing, headed, timed, tfdtVersionFaults, fallFaults, skipTraf, restFrom, trafEnds, beginTraf, stepTrafBody, trafNow, lacking, trafNext, trafBoxes, trafBox as trafKind, wrapTraf, stepTraf, trafSo0, beginTrafBoxes}

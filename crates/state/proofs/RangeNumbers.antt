@@ -2,7 +2,7 @@
 use Prim.Native.Nat.{ℕ, _+_, _≤_}
 use mathlib.Core.Bool.{Bool, true, false}
 use native.Mathlib.Omega.{arith}
-use Rattle.segment.specs.Constants.{levelBytes, workBytes}
+use Rattle.state.specs.Flow.{levelBytes, workBytes}
 use Rattle.machine.specs.declared.Head.{Head}
 use Rattle.machine.specs.declared.Head.the-variants as at
 use Rattle.state.specs.declared.Slot.{Slot}

@@ -9,7 +9,8 @@ use lib.Dec.{eqb, leb}
 use borrow.Author.Tests.{leb-false, not-false}
 use Rattle.basics.proofs.Picks.{pick-holds}
 use Rattle.basics.proofs.Tests.{and-not}
-use Rattle.segment.specs.Constants.{limit, levels as mostLevels, mostRecords, styp, sidx}
+use Rattle.segment.specs.Constants.{limit, levels as mostLevels, styp, sidx}
+use Rattle.table.specs.Table.{mostRecords}
 use Rattle.machine.specs.Faults.{shows}
 use Rattle.machine.specs.Run.{Sub, done, bad}
 use Rattle.machine.specs.Lists.{Box, inHead, inBody, stepBox}
@@ -35,7 +36,7 @@ use Rattle.state.specs.Opening.{stepOpening}
 use Rattle.state.specs.Sidx.{topmost, under, stepSidx}
 use Rattle.state.specs.Leaf.{leafSo0, stepLeaf}
 use Rattle.state.specs.Levels.{Entry, entryAt, entryPlace, inmost, depth, tookEntry, push, stillOpen, entryFaults, slotOf}
-use Rattle.state.specs.Stages.{topOf, topLevel, indexEnds, InnerBody, liftSidx, innerKind, wrapInner, innerLevel, stepInner, onward, follow, leafRow, stepInLeaf, stepSlot, stepEntry, stepGap, stepStage}
+use Rattle.state.specs.Stages.{topOf, topLevel, indexEnds, InnerBody, liftSidx, innerKind, wrapInner, innerLevel, stepInner, onward, follow, leafRecord, stepInLeaf, stepSlot, stepEntry, stepGap, stepStage}
 use Rattle.state.specs.Ranges.{Bound, atMost, below, Within, headBounds, sidxBounds, openingBounds, gapBounds, leafBounds, topBounds, levelBounds, levelsBounds, slotBounds, innerBounds, stageBounds}
 use Rattle.state.proofs.RangeTests.{within-append, within-first, within-second, within-three, three-within, within-four, four-within}
 use Rattle.state.proofs.RangeKept.{Numbered, Flows, Refuses, Goes, KeptIn, shown, both, boxBounds, box-kept}
@@ -89,9 +90,9 @@ step-in-leaf : (top : Top) (ls : Levels) (slot : Slot) (s : LeafBoxes) (f : Flow
 unfolding listed
 step-in-leaf top ls slot s f n b hn hb a w k =
     lift-kept (Goes (f .now) leafBounds) (Roomy (f .now)) Refuses StageGoes StageDone Refuses (stage.Leaf top ls slot)
-    (λ seen g. follow top ls (listed g (leafRow slot (g .now) (seen .first)) (slot .until) (seen .last))) bad (stepLeaf (top .id) slot s f n b)
+    (λ seen g. follow top ls (listed g (leafRecord slot (g .now) (seen .first)) (slot .until) (seen .last))) bad (stepLeaf (top .id) slot s f n b)
     (λ s' g y. leaf-goes top ls slot s' (f .now) g a y)
-    (λ seen g y. follow-kept top ls (listed g (leafRow slot (g .now) (seen .first)) (slot .until) (seen .last)) (a .0) (a .1) (a .2 .1 .1 .0) (y .0))
+    (λ seen g y. follow-kept top ls (listed g (leafRecord slot (g .now) (seen .first)) (slot .until) (seen .last)) (a .0) (a .1) (a .2 .1 .1 .0) (y .0))
     (λ x l y. y)
     (step-leaf (f .now) (top .id) slot s f n b hn hb w (k, refl))
 

@@ -10,7 +10,7 @@ use lib.ListN.{length}
 use borrow.Author.Tests.{eqb-false}
 use Rattle.basics.specs.Bytes.{AllBytes}
 use Rattle.basics.proofs.Picks.{pick-holds, pick-no, pick-if}
-use Rattle.segment.specs.Constants.{limit, workBytes}
+use Rattle.segment.specs.Constants.{limit}
 use Rattle.machine.specs.Faults.{lowest}
 use Rattle.machine.specs.Run.{Sub, go, done, bad}
 use Rattle.machine.specs.declared.Refusal.{Refusal}
@@ -22,7 +22,7 @@ use Rattle.state.specs.declared.Top.{Top}
 use Rattle.state.specs.declared.State.{State}
 use Rattle.state.specs.declared.State.the-variants as state
 use Rattle.state.specs.declared.FeedAnswer.{FeedAnswer}
-use Rattle.state.specs.Flow.{Flow, Left}
+use Rattle.state.specs.Flow.{Flow, Left, workBytes}
 use Rattle.state.specs.Step.{World, reading, ended, refused, settle, pastLimit, entryShows, overLimit, pastMaterial, step, run}
 use Rattle.state.specs.Ranges.{headBounds, openingBounds, stageBounds, bounds, inRange, InRange}
 use Rattle.state.specs.Calls.{Out, stateOf, flowOf, leftOf, startOf, feedState, feedOf, Finished, finishState, finishOf}

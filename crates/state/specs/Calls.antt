@@ -4,7 +4,6 @@ use mathlib.Core.List.{List}
 use lib.Dec.{ltb}
 use lib.ListN.{length}
 use Rattle.basics.specs.Choose.{pick}
-use Rattle.segment.specs.Constants.{workBytes}
 use Rattle.machine.specs.Faults.{refusal}
 use Rattle.state.specs.declared.State.{State}
 use Rattle.state.specs.declared.State.the-variants as state
@@ -12,7 +11,7 @@ use Rattle.state.specs.declared.FeedAnswer.{FeedAnswer}
 use Rattle.state.specs.declared.FeedAnswer.the-variants as feeds
 use Rattle.state.specs.declared.FinishAnswer.{FinishAnswer}
 use Rattle.state.specs.declared.FinishAnswer.the-variants as finishes
-use Rattle.state.specs.Flow.{Flow, Left}
+use Rattle.state.specs.Flow.{Flow, Left, workBytes}
 use Rattle.state.specs.Step.{World, reading, ended, refused, run, stage0}
 use Rattle.state.specs.Ranges.{inRange}
 

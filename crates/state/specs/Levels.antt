@@ -7,7 +7,8 @@ use lib.Dec.{eqb, ltb, leb}
 use lib.ListN.{take, drop}
 use Rattle.basics.specs.Choose.{pick}
 use Rattle.basics.specs.Bytes.{number}
-use Rattle.segment.specs.Constants.{typeBit, levelBytes, entryBytes}
+use Rattle.segment.specs.Constants.{typeBit, entryBytes}
+use Rattle.state.specs.Flow.{levelBytes}
 use Rattle.machine.specs.Faults.{shows}
 use Rattle.machine.specs.declared.Refusal.{Refusal}
 use Rattle.state.specs.declared.Level.{Level}

@@ -5,7 +5,7 @@ use mathlib.Core.Logic.{_≢_}
 use mathlib.Core.List.{List, [], _∷_}
 use mathlib.Core.Option.{Option, some, none}
 use lib.ListN.{length, getD}
-use Rattle.segment.specs.Constants.{recordNumbers}
+use Rattle.table.specs.Table.{recordNumbers}
 use Rattle.state.specs.declared.State.{State}
 use Rattle.state.specs.declared.State.the-variants as state
 use Rattle.state.specs.Places.{stageByte, storedAt}

@@ -3,7 +3,7 @@ use Prim.Native.Nat.{ℕ, _-_, _+_, _≤_, _<_}
 use mathlib.Core.List.{List}
 use mathlib.Core.Option.{Option, some, none}
 use Rattle.basics.specs.Bytes.{numberFrom}
-use Rattle.segment.specs.Constants.{workBytes}
+use Rattle.state.specs.Flow.{workBytes}
 use Rattle.machine.specs.declared.Head.{Head}
 use Rattle.machine.specs.declared.Head.the-variants as at
 use Rattle.state.specs.declared.Top.{Top}
@@ -33,7 +33,7 @@ use Rattle.state.specs.declared.InnerBox.{InnerBox}
 use Rattle.state.specs.declared.InnerBox.the-variants as inners
 use Rattle.state.specs.declared.Stage.{Stage}
 use Rattle.state.specs.declared.Stage.the-variants as stage
-use Rattle.state.specs.Flow.{putAll}
+use Rattle.basics.specs.Put.{putAll}
 use Rattle.state.specs.Levels.{depth}
 use Rattle.state.specs.Ranges.{Within, spelled}
 use Rattle.state.specs.Sidx.{Place, topmost, under, numberPlace, nextByte}

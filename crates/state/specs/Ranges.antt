@@ -4,7 +4,8 @@ use Prim.Native.Nat.{ℕ, suc, _+_, _-_, _*_, _^_, _≤_}
 use mathlib.Core.List.{List, [], _∷_, _++_}
 use mathlib.Core.Bool.{Bool, true, _&&_}
 use lib.Dec.{leb}
-use Rattle.segment.specs.Constants.{limit, timeLimit, wordLimit, typeBit, mostEntries, mostRecords}
+use Rattle.segment.specs.Constants.{limit, timeLimit, wordLimit, typeBit, mostEntries}
+use Rattle.table.specs.Table.{mostRecords}
 use Rattle.machine.specs.declared.Head.{Head}
 use Rattle.machine.specs.declared.Head.the-variants as at
 use Rattle.state.specs.declared.TrafBody.{TrafBody}

@@ -10,7 +10,8 @@ use Rattle.machine.specs.declared.Refusal.{Refusal}
 use Rattle.machine.specs.declared.Header.{Header}
 use Rattle.state.specs.declared.Track.{Track}
 use Rattle.state.specs.declared.Track.the-variants as track
-use Rattle.state.specs.Flow.{Flow, room}
+use Rattle.state.specs.Flow.{Flow}
+use Rattle.table.specs.Table.{room}
 
 -- a header's type is this one
 abbrev pub is : Header → ℕ → Bool

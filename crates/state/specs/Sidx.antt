@@ -4,7 +4,7 @@ use mathlib.Core.List.{List, [], _++_}
 use mathlib.Core.Bool.{Bool, true, false, not, _&&_, _||_}
 use lib.Dec.{eqb, ltb, leb}
 use Rattle.basics.specs.Choose.{pick}
-use Rattle.segment.specs.Constants.{limit, timeLimit, typeBit, levelBytes, entryBytes, mostEntries}
+use Rattle.segment.specs.Constants.{limit, timeLimit, typeBit, entryBytes, mostEntries}
 use Rattle.machine.specs.Faults.{shows, unless}
 use Rattle.machine.specs.Run.{Sub, go, done, bad}
 use Rattle.machine.specs.declared.Refusal.{Refusal}
@@ -20,7 +20,7 @@ use Rattle.state.specs.declared.EntryPart.{EntryPart}
 use Rattle.state.specs.declared.EntryPart.the-variants as entry
 use Rattle.state.specs.declared.Sidx.{Sidx}
 use Rattle.state.specs.declared.Sidx.the-variants as sidx
-use Rattle.state.specs.Flow.{Flow, Left, left, stored}
+use Rattle.state.specs.Flow.{Flow, Left, left, stored, levelBytes}
 
 -- Where an index stands: on top, or under an entry, with so many indexes open around it.
 pub data Place : Type 0 where

@@ -1,6 +1,6 @@
 -- The segment: the boxes up to the top index, the gap, and what the entries cover.
-use Prim.Native.Nat.{ℕ, zero, suc, _+_, _-_}
-use mathlib.Core.List.{List, [], _∷_}
+use Prim.Native.Nat.{ℕ, suc, _+_, _-_}
+use mathlib.Core.List.{[]}
 use mathlib.Core.Option.{Option, some, none}
 use mathlib.Core.Bool.{Bool, true, false}
 use lib.Dec.{eqb, leb}
@@ -10,6 +10,7 @@ use Rattle.machine.specs.Run.{Sub, go, done, bad, lift}
 use Rattle.machine.specs.Heads.{boxEnd}
 use Rattle.machine.specs.Lists.{Box, inHead, inBody, Kind, stepBox, Next, again, over, Boxes, stepBoxes}
 use Rattle.machine.specs.declared.Header.{Header}
+use Rattle.table.specs.declared.Record.{Record}
 use Rattle.machine.specs.declared.Head.the-variants as at
 use Rattle.state.specs.declared.Span.{Span}
 use Rattle.state.specs.declared.Top.{Top}
@@ -120,13 +121,14 @@ liftInner top ls slot r =
 abbrev pub stepInner : Top → Levels → Slot → Box InnerBody → Flow → ℕ → ℕ → Sub'
 stepInner top ls slot s f n b = liftInner top ls slot (stepBox (innerKind top slot (depth ls)) s f n b)
 
--- a leaf's record: position, size, start, duration, SAP word, first decode time of the reference track
-abbrev pub leafRow : Slot → ℕ → ℕ → List ℕ
-leafRow slot now first = slot .pos ∷ (slot .end - slot .pos) ∷ now ∷ (slot .until - now) ∷ slot .sap ∷ first ∷ []
+-- the record of a leaf in its slot that starts at `now`, with its first decode time of the reference track
+abbrev pub leafRecord : Slot → ℕ → ℕ → Record
+leafRecord slot now first =
+    record { position = slot .pos; size = slot .end - slot .pos; start = now; duration = slot .until - now; sap = slot .sap; time = first }
 
 abbrev pub liftLeaf : Top → Levels → Slot → Sub LeafBoxes Seen Flow Left → Sub'
 liftLeaf top ls slot r =
-    lift (stage.Leaf top ls slot) (λ seen f. follow top ls (listed f (leafRow slot (f .now) (seen .first)) (slot .until) (seen .last))) bad r
+    lift (stage.Leaf top ls slot) (λ seen f. follow top ls (listed f (leafRecord slot (f .now) (seen .first)) (slot .until) (seen .last))) bad r
 
 abbrev pub stepInLeaf : Top → Levels → Slot → LeafBoxes → Flow → ℕ → ℕ → Sub'
 stepInLeaf top ls slot s f n b = liftLeaf top ls slot (stepLeaf (top .id) slot s f n b)

@@ -13,12 +13,6 @@ pub const LAST_TIME: u64 = 18446744073709551615;
 // The most entries of an index.
 pub const MOST_ENTRIES: u64 = 1024;
 
-// The most leaves listed.
-pub const MOST_RECORDS: u64 = 4096;
-
-// How many numbers a leaf's record has.
-pub const NUMBERS: usize = 6;
-
 // An entry's bytes in the work area, and those of a level's part of it.
 pub const ENTRY_BYTES: u64 = 12;
 

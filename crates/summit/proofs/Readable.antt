@@ -1,7 +1,7 @@
 -- The summit is not empty: of all bytes, however they are cut, and of all that can be lent, there are calls as the contracts allow them. Each
 -- call answers what its definition gives.
 use Prim.Native.Nat.{ℕ}
-use mathlib.Core.Path.{_≡_, refl, ap, sym, _∙_}
+use mathlib.Core.Path.{_≡_, refl, ap}
 use mathlib.Core.List.{List, [], _∷_, map}
 use contract.Lifetimes.{Lfts}
 use denote.Ref.{RefT}
@@ -11,7 +11,7 @@ use Rattle.state.specs.declared.State.{State}
 use Rattle.state.specs.declared.FeedAnswer.{FeedAnswer}
 use Rattle.state.specs.Calls.{Out, startOf, finishOf}
 use Rattle.state.specs.Parts.{Held, held, heldAfter, feedHeld, feedAll, joined}
-use Rattle.lookup.specs.Lookup.{lookupOf}
+use Rattle.covering.specs.Lookup.{lookupOf}
 use Rattle.demands.specs.Demands.{inParts}
 use Rattle.summit.specs.Contracts.{StartCall, FeedCall, FinishCall, LookupCall, pieceOf, InOrder, SegmentRead, timeAsked, tableLent}
 

@@ -8,12 +8,12 @@ use lib.ListN.{length}
 use Rattle.basics.specs.Bytes.{AllBytes}
 use Rattle.basics.proofs.Bytes.{bytes-both}
 use Rattle.segment.specs.Tree.{Leaf, segment}
-use Rattle.segment.specs.Constants.{workBytes}
+use Rattle.state.specs.Flow.{workBytes}
 use Rattle.state.specs.declared.State.{State}
 use Rattle.state.specs.declared.FeedAnswer.{FeedAnswer}
 use Rattle.state.specs.declared.FinishAnswer.{FinishAnswer}
 use Rattle.state.specs.declared.FinishAnswer.the-variants as finishes
-use Rattle.state.specs.Flow.{room}
+use Rattle.table.specs.Table.{room}
 use Rattle.state.specs.Calls.{Out, out, startOf, Finished, finishOf, wholeOf}
 use Rattle.state.specs.Parts.{Held, held, heldAfter, feedHeld, feedAll, finishHeld, joined}
 use Rattle.start.proofs.OneOutcome.{start-once}
@@ -21,7 +21,7 @@ use Rattle.feed.proofs.OneOutcome.{feed-once}
 use Rattle.finish.proofs.OneOutcome.{finish-once}
 use Rattle.lookup.proofs.OneOutcome.{lookup-once}
 use Rattle.demands.specs.Demands.{Accepts, BeginsWith, inParts}
-use Rattle.lookup.specs.Lookup.{lookupOf}
+use Rattle.covering.specs.Lookup.{lookupOf}
 use Rattle.demands.proofs.Exact.{accepts-exactly, found, refused-exactly, before, past}
 use Rattle.demands.proofs.CutAnywhere.{cut-anywhere, accepted-long, accepted-belongs}
 use Rattle.summit.specs.Contracts.{FeedCall, FinishCall, LookupCall, pieceOf, givenTo, heldBy, InOrder, SegmentRead, timeAsked, tableLent}

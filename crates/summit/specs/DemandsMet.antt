@@ -6,7 +6,7 @@ use mathlib.Core.Logic.{_↔_}
 use mathlib.Core.Option.{some}
 use mathlib.Core.Bool.{true}
 use lib.ListN.{length}
-use Rattle.segment.specs.Constants.{workBytes}
+use Rattle.state.specs.Flow.{workBytes}
 use Rattle.segment.specs.Boxes.{durations}
 use Rattle.segment.specs.Tree.{Leaf, Opened, covers, topIndex, segment}
 use Rattle.segment.specs.Parts.{One, Belongs}
@@ -15,11 +15,10 @@ use Rattle.machine.specs.declared.Refusal.{Refusal}
 use Rattle.state.specs.declared.FinishAnswer.{FinishAnswer}
 use Rattle.state.specs.declared.FinishAnswer.the-variants as finishes
 use Rattle.state.specs.Calls.{Out, wholeOf}
-use Rattle.state.specs.Flow.{room}
-use Rattle.lookup.specs.declared.LookupAnswer.{LookupAnswer}
-use Rattle.lookup.specs.declared.LookupAnswer.the-variants as lookups
-use Rattle.lookup.specs.Rows.{recordOf}
-use Rattle.lookup.proofs.Listed.{NoLeafCovers}
+use Rattle.table.specs.Table.{room}
+use Rattle.covering.specs.declared.LookupAnswer.{LookupAnswer}
+use Rattle.covering.specs.declared.LookupAnswer.the-variants as lookups
+use Rattle.covering.specs.Records.{recordOf, NoLeafCovers}
 use Rattle.demands.specs.Demands.{Accepts, BeginsWith}
 use Rattle.summit.specs.Contracts.{LookupCall, timeAsked, tableLent}
 

@@ -1,7 +1,7 @@
 -- `lookup::covers_at` meets its contract, by the laws `before-start`, `past-end` and `not-past`, and by the definition of `recordAt`.
 use mathlib.Core.Path.{sym}
 use native.Mathlib.Omega.{arith}
-use Rattle.lookup.specs.Lookup.{recordAt}
+use Rattle.table.specs.Table.{recordAt}
 use Rattle.lookup.proofs.Passing.{before-start, past-end, not-past}
 use borrow.Author.Needs.{needs}
 use Rattle.lookup.proofs.covers_at.Statement.{statement}

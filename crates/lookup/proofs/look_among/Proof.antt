@@ -5,7 +5,7 @@ use native.Mathlib.Omega.{arith}
 use lib.ListN.{length}
 use borrow.Author.Tests.{le-ltb}
 use Rattle.basics.proofs.Picks.{pick-yes, pick-no}
-use Rattle.segment.specs.Constants.{recordNumbers}
+use Rattle.table.specs.Table.{recordNumbers}
 use Rattle.lookup.proofs.Passing.{too-short, long-enough}
 use borrow.Author.Needs.{needs}
 use Rattle.lookup.proofs.look_among.Statement.{statement}

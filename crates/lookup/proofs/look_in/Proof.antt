@@ -3,10 +3,10 @@ use Prim.Native.Nat.{ℕ, _+_, _-_, _≤_}
 use mathlib.Core.Path.{_≡_, sym, ap, _∙_}
 use mathlib.Core.Option.{Option}
 use native.Mathlib.Omega.{arith}
-use Rattle.lookup.specs.Lookup.{coveringFrom, found, lookIn}
+use Rattle.covering.specs.Lookup.{coveringFrom, found, lookIn}
 use Rattle.lookup.proofs.Passing.{first-turn, turn-found, turn-on, last-turn}
-use Rattle.lookup.specs.declared.Record.{Record}
-use Rattle.lookup.specs.declared.LookupAnswer.the-variants as answer
+use Rattle.table.specs.declared.Record.{Record}
+use Rattle.covering.specs.declared.LookupAnswer.the-variants as answer
 use Rattle.lookup.proofs.look_in.Statement.{statement}
 use Rattle.lookup.proofs.look_in.Tie as tie
 

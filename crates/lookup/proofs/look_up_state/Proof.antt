@@ -1,6 +1,6 @@
 -- `lookup::look_up_state` meets its contract, by those of `refused` and `look_among`, and by the definition of `lookupState`.
 use mathlib.Core.Path.{sym, ap, _∙_}
-use Rattle.lookup.specs.Lookup.{lookupState}
+use Rattle.covering.specs.Lookup.{lookupState}
 use Rattle.state.specs.declared.State.{State}
 use borrow.Author.Needs.{needs}
 use Rattle.lookup.proofs.look_up_state.Statement.{statement}

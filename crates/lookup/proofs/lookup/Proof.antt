@@ -3,7 +3,7 @@
 use mathlib.Core.Path.{sym, _∙_}
 use Rattle.basics.proofs.Picks.{pick-yes, pick-no}
 use Rattle.state.specs.Ranges.{inRange}
-use Rattle.lookup.specs.Lookup.{lookupOf}
+use Rattle.covering.specs.Lookup.{lookupOf}
 use borrow.Author.Needs.{needs}
 use Rattle.lookup.proofs.lookup.Statement.{statement}
 use Rattle.lookup.proofs.lookup.Tie as tie

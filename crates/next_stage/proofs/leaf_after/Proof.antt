@@ -1,9 +1,7 @@
 -- `next_stage::leaf_after` meets its contract, by that of `follow`, by the law `leaf-done`, and by the definitions of `lift` and `tableAfter`.
-use Prim.Native.Nat.{_*_}
 use Rattle.machine.specs.Run.{lift}
 use Rattle.state.specs.Stages as defs
-use Rattle.segment.specs.Constants.{recordNumbers}
-use Rattle.state.specs.Flow.{putAll}
+use Rattle.table.specs.Table.{putRecord}
 use Rattle.next_stage.specs.Arms.{tableAfter}
 use Rattle.next_stage.proofs.Laws.{leaf-done}
 use borrow.Author.Needs.{needs}
@@ -35,7 +33,7 @@ returns-2 c =
     let a = arm .before .before .args in
     λ work table. rw (arm .q2 .given .1)
     (leaf-done (a .top) (a .ls) (a .slot) (a .r) work table (arm .q2 .given .0 .0) (c .follow .result)
-    (c .follow .ensures (a .r .leaves) work (putAll table (recordNumbers * a .r .leaves) (defs.leafRow (a .slot) (a .r .now) (arm .q2 .given .0 .0 .first)))))
+    (c .follow .ensures (a .r .leaves) work (putRecord table (a .r .leaves) (defs.leafRecord (a .slot) (a .r .now) (arm .q2 .given .0 .0 .first)))))
 
 returns-3 : tie.Need-returns-3
 unfolding lift tableAfter

@@ -1,4 +1,4 @@
--- `stage::leaf_stage` meets its contract, by those of `no_room`, `leaf_byte`, `row_after` and `leaf_after`, and by the law `leaf-step`.
+-- `stage::leaf_stage` meets its contract, by those of `no_room`, `leaf_byte`, `record_after` and `leaf_after`, and by the law `leaf-step`.
 use mathlib.Core.Path.{refl, sym}
 use Rattle.next_stage.specs.Views.{flowing}
 use Rattle.stage.proofs.Steps.{leaf-step}
@@ -12,8 +12,8 @@ no-room-requires c κs = search needs
 leaf-byte-requires : tie.Need-leaf-byte-requires
 leaf-byte-requires c κs = search needs
 
-row-after-requires : tie.Need-row-after-requires
-row-after-requires c κs = search needs
+record-after-requires : tie.Need-record-after-requires
+record-after-requires c κs = search needs
 
 leaf-after-requires : tie.Need-leaf-after-requires
 leaf-after-requires c κs = search needs
@@ -23,12 +23,12 @@ same-length c = search needs
 
 returns : tie.Need-returns
 returns c =
-    let at-row-after = c .before .before .before in
-    let stepped = at-row-after .before .before in
+    let at-record-after = c .before .before .before in
+    let stepped = at-record-after .before .before in
     let at-no-room = stepped .before in
     let a = at-no-room .before .before .args in
     λ work. leaf-step (a .top) (a .ls) (a .slot) (a .r) work (a .table .now) (a .s) (a .n) (a .b) (stepped .leaf-byte .result) _ (c .leaf-after .result)
-    (at-row-after .row-after .ensures) (c .leaf-after .ensures work _)
+    (at-record-after .record-after .ensures) (c .leaf-after .ensures work _)
     (stepped .leaf-byte .ensures (flowing (a .r) work (a .table .now)) (sym (at-no-room .no-room .ensures _ refl)))
 
 pub leaf-stage-spec : {M : Type 1} → statement M
@@ -37,7 +37,7 @@ leaf-stage-spec =
     (tie.spec
     no-room-requires
     leaf-byte-requires
-    row-after-requires
+    record-after-requires
     leaf-after-requires
     same-length
     returns)

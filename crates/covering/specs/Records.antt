@@ -1,0 +1,29 @@
+-- The leaves of a segment as they stand in the leaf table, and the number of a refusal where none of them covers a time.
+use Prim.Native.Nat.{ℕ}
+use mathlib.Core.Path.{_≡_}
+use mathlib.Core.List.{List, [], _∷_, _++_}
+use mathlib.Core.Bool.{false}
+use lib.Dec.{ltb}
+use Rattle.basics.specs.Choose.{pick}
+use Rattle.segment.specs.Tree.{Leaf, covers}
+use Rattle.segment.specs.Parts.{At}
+use Rattle.table.specs.declared.Record.{Record}
+use Rattle.table.specs.Table.{numbersOf}
+
+-- the record of a leaf
+abbrev pub recordOf : Leaf → Record
+recordOf l = record { position = l .position; size = l .size; start = l .start; duration = l .duration; sap = l .sap; time = l .time }
+
+-- the numbers of the leaves' records, one record after the other
+unfoldable pub recordsOf : List Leaf → List ℕ
+recordsOf [] = []
+recordsOf (l ∷ ls) = numbersOf (recordOf l) ++ recordsOf ls
+
+-- none of the leaves covers t
+abbrev pub NoLeafCovers : List Leaf → ℕ → Type 0
+NoLeafCovers ls t = (i : ℕ) (l : Leaf) → At ls i l → covers t l ≡ false
+
+-- "if none does, 23 when there is a record 1 and t is below its start, else 24"
+unfoldable pub outsideNumber : List Leaf → ℕ → ℕ
+outsideNumber [] t = 24
+outsideNumber (l ∷ ls) t = pick (ltb t (l .start)) 23 24
