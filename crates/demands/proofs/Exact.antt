@@ -13,10 +13,10 @@ use borrow.Author.Tests.{eqb-true, ltb-true, ltb-false, le-ltb}
 use Rattle.basics.specs.Choose.{pick}
 use Rattle.basics.specs.Bytes.{AllBytes}
 use Rattle.basics.proofs.Picks.{lt-or-ge, pick-no, pick-holds}
-use Rattle.basics.proofs.Options.{pick-else}
-use Rattle.segment.specs.Constants.{limit}
+use Rattle.basics.proofs.Options.{then-inv, pick-else}
+use Rattle.segment.specs.Constants.{limit, workBytes, recordNumbers, mostRecords}
 use Rattle.segment.specs.Boxes.{durations}
-use Rattle.segment.specs.Tree.{Leaf, Opened, covers, topIndex, segment}
+use Rattle.segment.specs.Tree.{Leaf, Opened, covers, topIndex, segmentParts, segment}
 use Rattle.segment.specs.Parts.{At, One}
 use Rattle.machine.specs.Faults.{refusal}
 use Rattle.machine.specs.Run.{Res, okay, fail, cut}
@@ -81,8 +81,10 @@ listed-read (cut l n) k e = let z : _≡_ {A = ℕ} 0 1 = cc in absurd (omega ar
 
 -- a segment of the tree lies within the limit
 segment-small : (brand : ℕ) (bytes : List ℕ) (ls : List Leaf) → segment brand bytes ≡ some ls → length bytes ≤ limit
-unfolding segment
-segment-small brand bytes ls e = let (small, e') = pick-else (ltb limit (length bytes)) _ ls e in ltb-false limit (length bytes) small
+unfolding segment segmentParts
+segment-small brand bytes ls e =
+    let (ps, parted, leaves) = then-inv (segmentParts brand bytes) _ ls e in
+    ltb-false limit (length bytes) (pick-else (ltb limit (length bytes)) _ ps parted .0)
 
 accepted-alike : (n m a b : ℕ) (s t : Top) → n ≡ m → a ≡ b → s ≡ t → state.Accepted n a s ≡ state.Accepted m b t
 accepted-alike n m a b s t p q r = cc

@@ -11,8 +11,8 @@ use borrow.Author.Tests.{eqb-true, eq-eqb, ne-eqb}
 use Rattle.basics.specs.Choose.{pick, andThen}
 use Rattle.basics.proofs.Picks.{pick-yes, pick-no, pick-holds}
 use Rattle.basics.proofs.Options.{then-cong, then-assoc, then-pick}
-use Rattle.segment.specs.Boxes.{boxes, cut, without}
-use Rattle.segment.specs.Tree.{topKinds, gapBoxes}
+use Rattle.segment.specs.Boxes.{boxes, cut, topKinds, without}
+use Rattle.segment.specs.Tree.{gapBoxes}
 use Rattle.machine.specs.Run.{Res, okay, fail, skipD}
 use Rattle.machine.specs.Heads.{boxEnd}
 use Rattle.machine.specs.Lists.{boxD, again, over}

@@ -14,7 +14,8 @@ use Rattle.basics.specs.Choose.{pick, andThen}
 use Rattle.basics.specs.Bytes.{numberFrom}
 use Rattle.basics.proofs.Picks.{lt-or-ge, pick-both, pick-if}
 use Rattle.basics.proofs.Options.{then-cong, then-assoc, then-inv, pick-else}
-use Rattle.segment.specs.Boxes.{Box, Field, field, boxOf, firstBox}
+use Rattle.segment.specs.Boxes.{Box, boxOf, firstBox}
+use Rattle.segment.proofs.Said.{Start, size4, kind4, size8, short, long, start, boxAt, first-start, start-fits, body-rest}
 use Rattle.machine.specs.Faults.{unless}
 use Rattle.machine.specs.Run.{Res, okay, fail, fieldD, plain}
 use Rattle.machine.specs.Heads.{underEight, underSixteen, sizeFaults, header, boxEnd, sizedD, headD}
@@ -23,104 +24,6 @@ use Rattle.machine.specs.declared.Header.{Header}
 use Rattle.state.specs.Flow.{Flow, Left, left}
 use Rattle.demands.specs.Told.{upon, clean, headLength, headerOf}
 use Rattle.demands.proofs.Upons.{upon-after, upon-cong, upon-unless, clean-append, clean-shows, pick-and, upon-field, upon-few}
-
--- What a header says: size, type, and its own length.
-record Start : Type 0 where
-  size : ℕ
-  kind : ℕ
-  head : ℕ
-
--- the numbers that a header spells: size and type of 32 bits, and the size of 64 bits after them
-abbrev size4 : List ℕ → ℕ
-size4 bs = numberFrom 0 (take 4 bs)
-
-abbrev kind4 : List ℕ → ℕ
-kind4 bs = numberFrom 0 (take 4 (drop 4 bs))
-
-abbrev size8 : List ℕ → ℕ
-size8 bs = numberFrom 0 (take 8 (drop 8 bs))
-
-abbrev short : List ℕ → Start
-short bs = record { size = size4 bs; kind = kind4 bs; head = 8 }
-
-abbrev long : List ℕ → Start
-long bs = record { size = size8 bs; kind = kind4 bs; head = 16 }
-
--- the header that bytes start with
-unfoldable start : List ℕ → Option Start
-start bs = pick (ltb (length bs) 8) none (pick (eqb (size4 bs) 1) (pick (ltb (length bs) 16) none (some (long bs))) (some (short bs)))
-
--- What the tree reads at the start of bytes.
-
--- a field where there are enough bytes, and where there are not
-field-enough : {X : Type 0} (m : ℕ) (xs : List ℕ) (k : ℕ → List ℕ → Option X) → m ≤ length xs →
-    andThen (field m xs) (λ v. k (v .value) (v .rest)) ≡ k (numberFrom 0 (take m xs)) (drop m xs)
-unfolding field andThen pick
-field-enough m xs k l = rw (le-ltb (length xs) m l)
-
-field-none : {X : Type 0} (m : ℕ) (xs : List ℕ) (k : Field → Option X) → length xs < m → andThen (field m xs) k ≡ none
-unfolding field andThen pick
-field-none m xs k l = rw (lt-ltb (length xs) m l)
-
--- the box of a header
-abbrev boxAt : List ℕ → Start → Option Box
-boxAt xs t = boxOf (t .head) (t .size) (t .kind) (drop (t .head) xs)
-
--- from the type on
-abbrev typed : ℕ → ℕ → List ℕ → Option Box
-typed size kind xs = pick (eqb size 1) (andThen (field 8 xs) (λ more. boxOf 16 (more .value) kind (more .rest))) (boxOf 8 size kind xs)
-
-first-typed : (xs : List ℕ) → 8 ≤ length xs → firstBox xs ≡ typed (size4 xs) (kind4 xs) (drop 8 xs)
-unfolding firstBox
-first-typed xs l =
-    field-enough 4 xs (λ size ys. andThen (field 4 ys) (λ kind. typed size (kind .value) (kind .rest))) (omega arith)
-    ∙ field-enough 4 (drop 4 xs) (λ kind ys. typed (size4 xs) kind ys) (simp length-drop (omega arith))
-    ∙ ap (λ zs. typed (size4 xs) (kind4 xs) zs) (drop-drop 4 4 xs)
-
-first-few : (xs : List ℕ) → length xs < 8 → firstBox xs ≡ none
-unfolding firstBox
-first-few xs l = at (lt-or-ge (length xs) 4)
-  where
-    at : (length xs < 4) ⊎ (4 ≤ length xs) → firstBox xs ≡ none
-    at (inl h) = field-none 4 xs _ h
-    at (inr h) =
-        field-enough 4 xs (λ size ys. andThen (field 4 ys) (λ kind. typed size (kind .value) (kind .rest))) h
-        ∙ field-none 4 (drop 4 xs) _ (simp length-drop (omega arith))
-
--- the size of 64 bits
-first-large : (xs : List ℕ) (kind : ℕ) → 16 ≤ length xs →
-    andThen (field 8 (drop 8 xs)) (λ more. boxOf 16 (more .value) kind (more .rest)) ≡ boxOf 16 (size8 xs) kind (drop 16 xs)
-first-large xs kind l = field-enough 8 (drop 8 xs) (λ size ys. boxOf 16 size kind ys) (simp length-drop (omega arith)) ∙ ap (λ zs. boxOf 16 (size8 xs) kind zs) (drop-drop 8 8 xs)
-
-first-start : (xs : List ℕ) → firstBox xs ≡ andThen (start xs) (boxAt xs)
-unfolding start andThen
-first-start xs =
-    sym (pick-if (ltb (length xs) 8) (λ o. andThen o (boxAt xs)) _ _ (firstBox xs)
-    (λ few. sym (first-few xs (ltb-true _ _ few)))
-    (λ enough.
-    let l : 8 ≤ length xs = ltb-false _ _ enough in
-    sym (first-typed xs l
-    ∙ pick-both (eqb (size4 xs) 1) (λ o. o) (λ o. andThen o (boxAt xs)) _ _ _ _
-    (sym (pick-if (ltb (length xs) 16) (λ o. andThen o (boxAt xs)) _ _ _
-    (λ few. sym (field-none 8 (drop 8 xs) _ (let h : length xs < 16 = ltb-true _ _ few in simp length-drop (omega arith))))
-    (λ enough'. sym (first-large xs (kind4 xs) (ltb-false _ _ enough')))))
-    refl)))
-
--- a header is within the bytes
-start-fits : (xs : List ℕ) (t : Start) → start xs ≡ some t → (8 ≤ t .head) × (t .head ≤ length xs)
-unfolding start pick
-start-fits xs t e =
-    let (enough, e') = pick-else (ltb (length xs) 8) _ t e in
-    let l : 8 ≤ length xs = ltb-false _ _ enough in
-    at l (eqb (size4 xs) 1) e'
-  where
-    at : 8 ≤ length xs → (b : Bool) → pick b (pick (ltb (length xs) 16) none (some (long xs))) (some (short xs)) ≡ some t → (8 ≤ t .head) × (t .head ≤ length xs)
-    at l true q =
-        let (enough, q') = pick-else (ltb (length xs) 16) _ t q in
-        let m : 16 ≤ length xs = ltb-false _ _ enough in
-        let w : long xs ≡ t = cc in
-        rw (← w) (omega arith)
-    at l false q = let w : short xs ≡ t = cc in rw (← w) (omega arith)
 
 -- What the header reading reads there.
 module _ {X : Type 0} (end : ℕ) (f : Flow) (n : ℕ) (K : Header → Flow → ℕ → List ℕ → Option X) where
@@ -221,54 +124,6 @@ module _ {X : Type 0} (end : ℕ) (f : Flow) (n : ℕ) (K : Header → Flow → 
         refl)))
 
 -- The box of a header.
-
--- what a box of the tree is of the bytes that start with it
-pub record FirstBox (xs : List ℕ) (b : Box) : Type 0 where
-  -- it ends within them
-  pub fits : b .size ≤ length xs
-  -- its header has 8 bytes or more
-  pub eight : 8 ≤ headLength b
-  -- header and body are all of it
-  pub bodied : headLength b + length (b .body) ≡ b .size
-  -- its body follows its header
-  pub inside : drop (headLength b) xs ≡ b .body ++ drop (b .size) xs
-  -- header, body, and what follows
-  pub parts : xs ≡ take (headLength b) xs ++ (b .body ++ drop (b .size) xs)
-
--- bytes after a header are a body and what follows
-body-rest : (xs : List ℕ) (hd size : ℕ) → hd ≤ size → drop hd xs ≡ take (size - hd) (drop hd xs) ++ drop size xs
-body-rest xs hd size l =
-    let q : hd + (size - hd) ≡ size = omega arith in
-    let d : drop (size - hd) (drop hd xs) ≡ drop size xs = drop-drop (size - hd) hd xs ∙ ap (λ m. drop m xs) q in
-    sym (take-append-drop (size - hd) (drop hd xs)) ∙ ap (λ zs. take (size - hd) (drop hd xs) ++ zs) d
-
-first-of : (xs : List ℕ) (hd size kind : ℕ) (b : Box) → 8 ≤ hd → hd ≤ length xs → boxOf hd size kind (drop hd xs) ≡ some b → FirstBox xs b
-unfolding boxOf
-first-of xs hd size kind b eight fits e =
-    let (ge, e') = pick-else (ltb size hd) _ b e in
-    let (le, e'') = pick-else (ltb (length (drop hd xs)) (size - hd)) _ b e' in
-    let w : record { kind = kind; size = size; body = take (size - hd) (drop hd xs) } ≡ b = cc in
-    let l : hd ≤ size = ltb-false _ _ ge in
-    let m : size - hd ≤ length (drop hd xs) = ltb-false _ _ le in
-    let n : length (take (size - hd) (drop hd xs)) ≡ size - hd = length-take-le (size - hd) (drop hd xs) m in
-    let d : length (drop hd xs) ≡ length xs - hd = length-drop hd xs in
-    let q : size - length (take (size - hd) (drop hd xs)) ≡ hd = omega arith in
-    rw (← w)
-    (record {
-      fits = omega arith;
-      eight = omega arith;
-      bodied = omega arith;
-      inside = rw q (body-rest xs hd size l);
-      parts = rw q (sym (take-append-drop hd xs) ∙ ap (λ zs. take hd xs ++ zs) (body-rest xs hd size l));
-    })
-
--- the box that bytes start with ends within them, and its header has 8 bytes or more
-pub first-box : (xs : List ℕ) (b : Box) → firstBox xs ≡ some b → FirstBox xs b
-first-box xs b e =
-    let (t, s, e') = then-inv (start xs) (boxAt xs) b (sym (first-start xs) ∙ e) in
-    let (eight, fits) = start-fits xs t s in
-    first-of xs (t .head) (t .size) (t .kind) b eight fits e'
-
 -- no fault of a header's size
 clean-sizes : (end : ℕ) (h : Header) → clean (sizeFaults end h) ≡ not (ltb (h .size) (h .head)) && not (ltb end (boxEnd h))
 clean-sizes end h = rw (clean-append, clean-shows (ltb (h .size) (h .head)) 4 (h .pos), clean-shows (ltb end (h .pos + h .size)) 5 (h .pos))

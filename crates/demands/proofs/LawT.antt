@@ -17,7 +17,8 @@ use Rattle.segment.specs.Constants.{limit, timeLimit, entryBytes}
 use Rattle.segment.specs.Boxes as tree
 use Rattle.segment.specs.Boxes.{sizes, durations}
 use Rattle.segment.specs.Leaves.{neverFall}
-use Rattle.segment.specs.Tree.{Leaf, Item, Opened, topIndex, gapBoxes, material, tile, underIndex, allTimes, leafOf, segment}
+use Rattle.segment.specs.Tree.{Part, Opened, topIndex, gapBoxes, material, tile, underIndex, timesIn, leavesIn, segmentParts, segment}
+use Rattle.segment.proofs.Stands.{top-stands}
 use Rattle.machine.specs.Faults.{shows, refusal, lowest}
 use Rattle.machine.specs.Run.{Res, okay, fail, cut, either, after}
 use Rattle.machine.specs.Limit.{beyond}
@@ -45,7 +46,7 @@ use Rattle.demands.proofs.SidxTree.{SidxFacts, sidx-facts}
 use Rattle.demands.proofs.TileTree.{Like, Goes, Follows, tile-meets}
 use Rattle.demands.proofs.InnerTree.{at-level}
 use Rattle.demands.proofs.GapTree.{gap-tree, gap-ends, gap-numbers}
-use Rattle.demands.proofs.OpeningTree.{atTop, topEnd, topSpan, topBody, topped, opening-tree, top-sums}
+use Rattle.demands.proofs.OpeningTree.{atTop, topEnd, topSpan, opening-tree, top-sums}
 use Rattle.demands.proofs.OpeningNumbers.{opening-numbers}
 use Rattle.demands.proofs.Seats.{listing, enlist-seat, enlist-falls}
 
@@ -59,9 +60,9 @@ unfoldable pub final : Top → Flow → ℕ → List ℕ → Verdict Listing
 final top f n [] = listing f
 final top f n (b ∷ bs) = wrong
 
--- what the tree says of a list of leaves
-abbrev seated : List ℕ → List Leaf → Verdict Listing
-seated table ls = seat ls 0 table
+-- what the tree says of parts: their leaves in a table
+abbrev seated : List ℕ → List Part → Verdict Listing
+seated table ps = seat (leavesIn ps) 0 table
 
 -- whether bytes are left
 unfoldable peek : Unit {0} → Flow → ℕ → List ℕ → Verdict (Unit {0})
@@ -74,7 +75,13 @@ peek-left u f n [] l = absurd (omega arith)
 peek-left u f n (b ∷ bs) l = refl
 
 -- The entries of the top index, where the material begins.
-module _ (i : tree.Index) (body : List ℕ) (f0 : Flow) (n : ℕ) (read : tree.sidxIndex body ≡ some i) (long : workBytes ≤ length (f0 .work)) where
+module _ (o : Opened) (f0 : Flow) (n : ℕ) (read : tree.sidxIndex (o .box .body) ≡ some (o .index)) (long : workBytes ≤ length (f0 .work)) where
+  abbrev i : tree.Index
+  i = o .index
+
+  abbrev body : List ℕ
+  body = o .box .body
+
   abbrev x : Index
   x = indexFrom i
 
@@ -91,8 +98,8 @@ module _ (i : tree.Index) (body : List ℕ) (f0 : Flow) (n : ℕ) (read : tree.s
   abbrev under : {X : Type 0} → List ℕ → Goes X → Verdict X
   under bs h = judge (underD 4 top 1 level flow (n + x .offset) bs) h
 
-  abbrev items : List ℕ → Option (List Item)
-  items bs = tile (top .id) (underIndex (top .id) (top .scale) 3) (n + x .offset) (x .time) (i .entries) bs
+  abbrev parts : List ℕ → Option (List Part)
+  parts bs = tile (top .id) (underIndex (top .id) (top .scale) 3) (n + x .offset) (x .time) (i .entries) bs
 
   same : Like flow flow
   same = record { leaves = refl; now = refl; last = refl; table = refl }
@@ -100,7 +107,7 @@ module _ (i : tree.Index) (body : List ℕ) (f0 : Flow) (n : ℕ) (read : tree.s
   -- entries that fill the bytes `A`, with the bytes `B` after them
   entries-meet : {X : Type 0} (A B : List ℕ) (h : Goes X) (K : Flow → Verdict X) → sizes (i .entries) ≡ length A →
       Follows (levelBytes * 1) (flow .work) (x .time + durations (i .entries)) h (n + x .offset + length A) B K →
-      Meets (under (A ++ B) h) (told (items A) (λ is. enlist is flow (λ g. K (withNow g (x .time + durations (i .entries))))))
+      Meets (under (A ++ B) h) (told (parts A) (λ is. enlist is flow (λ g. K (withNow g (x .time + durations (i .entries))))))
   unfolding underD partOf
   entries-meet {X} A B h K sz fo =
       let fa : SidxFacts body i = sidx-facts body i read in
@@ -116,43 +123,43 @@ module _ (i : tree.Index) (body : List ℕ) (f0 : Flow) (n : ℕ) (read : tree.s
   abbrev ending : Goes Listing
   ending u f m cs = final top f m cs
 
-  abbrev said : List ℕ → List Item → Verdict Listing
-  said table is = told (pick (neverFall 0 (allTimes is)) (some (map leafOf is)) none) (seated table)
+  abbrev said : List ℕ → List Part → Verdict Listing
+  said table ps = told (pick (neverFall 0 (timesIn ps)) (some ps) none) (seated table)
 
   -- the leaves listed are those that the tree seats
-  items-meet : f0 .leaves ≡ 0 → f0 .last ≡ 0 → (is : List Item) → Meets (enlist is flow listing) (said (f0 .table) is)
+  parts-meet : f0 .leaves ≡ 0 → f0 .last ≡ 0 → (ps : List Part) → Meets (enlist ps flow listing) (said (f0 .table) ps)
   unfolding told pick enlist
-  items-meet l0 t0 is = at (neverFall 0 (allTimes is)) refl
+  parts-meet l0 t0 ps = at (neverFall 0 (timesIn ps)) refl
     where
-      at : (t : Bool) → neverFall 0 (allTimes is) ≡ t → Meets (enlist is flow listing) (told (pick t (some (map leafOf is)) none) (seated (f0 .table)))
-      at true q = meets-equal (enlist is flow listing) (seated (f0 .table) (map leafOf is)) (enlist-seat is flow (rw t0 q) ∙ ap (λ (n : ℕ). seat (map leafOf is) n (f0 .table)) l0)
-      at false q = enlist-falls is flow listing (rw t0 q)
+      at : (t : Bool) → neverFall 0 (timesIn ps) ≡ t → Meets (enlist ps flow listing) (told (pick t (some ps) none) (seated (f0 .table)))
+      at true q = meets-equal (enlist ps flow listing) (seated (f0 .table) ps) (enlist-seat ps flow (rw t0 q) ∙ ap (λ (n : ℕ). seat (leavesIn ps) n (f0 .table)) l0)
+      at false q = enlist-falls ps flow listing (rw t0 q)
 
   -- the bytes are those that the entries cover
-  exact : f0 .leaves ≡ 0 → f0 .last ≡ 0 → (A : List ℕ) → sizes (i .entries) ≡ length A → Meets (under A ending) (told (items A) (said (f0 .table)))
+  exact : f0 .leaves ≡ 0 → f0 .last ≡ 0 → (A : List ℕ) → sizes (i .entries) ≡ length A → Meets (under A ending) (told (parts A) (said (f0 .table)))
   unfolding final
   exact l0 t0 A sz =
-      meets-trans (under A ending) (told (items A) (λ is. enlist is flow listing)) (told (items A) (said (f0 .table)))
-      (subst (λ (bs : List ℕ). Meets (under bs ending) (told (items A) (λ is. enlist is flow listing))) (append-nil A)
+      meets-trans (under A ending) (told (parts A) (λ is. enlist is flow listing)) (told (parts A) (said (f0 .table)))
+      (subst (λ (bs : List ℕ). Meets (under bs ending) (told (parts A) (λ is. enlist is flow listing))) (append-nil A)
       (entries-meet A [] ending listing sz (λ f g t al lk. meets-equal (listing f) (listing g) (rw (lk .leaves, lk .table)))))
-      (told-meets (items A) (λ is. enlist is flow listing) (said (f0 .table)) (λ is e. items-meet l0 t0 is))
+      (told-meets (parts A) (λ is. enlist is flow listing) (said (f0 .table)) (λ is e. parts-meet l0 t0 is))
 
   -- more bytes follow
   longer : (A B : List ℕ) → sizes (i .entries) ≡ length A → 0 < length B → NotFine (under (A ++ B) ending)
   unfolding final
   longer A [] sz more = absurd (omega arith)
   longer A (b ∷ B) sz more =
-      meets-not (under (A ++ (b ∷ B)) ending) (told (items A) (λ is. enlist is flow (λ g. wrong)))
+      meets-not (under (A ++ (b ∷ B)) ending) (told (parts A) (λ is. enlist is flow (λ g. wrong)))
       (entries-meet A (b ∷ B) ending (λ g. wrong) sz (λ f g t al lk. tt))
-      (told-not (items A) (λ is. enlist is flow (λ g. wrong)) (λ is e. enlist-not is flow (λ g. wrong) (λ g. tt)))
+      (told-not (parts A) (λ is. enlist is flow (λ g. wrong)) (λ is e. enlist-not is flow (λ g. wrong) (λ g. tt)))
 
   -- entries that reach past the last byte: with as many bytes more none would be left, and with fewer some would
   none-left : (A : List ℕ) → sizes (i .entries) ≡ length A → NotFine (under A peek)
   unfolding peek
   none-left A sz =
-      meets-not (under A peek) (told (items A) (λ is. enlist is flow (λ g. wrong)))
-      (subst (λ (bs : List ℕ). Meets (under bs peek) (told (items A) (λ is. enlist is flow (λ g. wrong)))) (append-nil A) (entries-meet A [] peek (λ g. wrong) sz (λ f g t al lk. tt)))
-      (told-not (items A) (λ is. enlist is flow (λ g. wrong)) (λ is e. enlist-not is flow (λ g. wrong) (λ g. tt)))
+      meets-not (under A peek) (told (parts A) (λ is. enlist is flow (λ g. wrong)))
+      (subst (λ (bs : List ℕ). Meets (under bs peek) (told (parts A) (λ is. enlist is flow (λ g. wrong)))) (append-nil A) (entries-meet A [] peek (λ g. wrong) sz (λ f g t al lk. tt)))
+      (told-not (parts A) (λ is. enlist is flow (λ g. wrong)) (λ is e. enlist-not is flow (λ g. wrong) (λ g. tt)))
 
   some-left : (bs zs : List ℕ) → 0 < length zs → (u : Unit {0}) (g : Flow) (m : ℕ) (cs : List ℕ) → underD 4 top 1 level flow (n + x .offset) bs ≡ okay u g m cs → under (bs ++ zs) peek ≡ fine tt
   unfolding either judge
@@ -198,7 +205,7 @@ module _ (i : tree.Index) (body : List ℕ) (f0 : Flow) (n : ℕ) (read : tree.s
       ∙ ap (λ (o : Option (Verdict Listing)). told o (λ v. v)) (gap-tree (x .offset) flow n A B (λ u g m cs. some (past u g m cs)) la)
       ∙ told-then (gapBoxes A) (λ gap. some (under B ending)) (λ v. v)
 
-  module _ (o : Opened) (is-index : o .index ≡ i) (all : ℕ) (ends : all ≡ n + length (o .rest)) (l0 : f0 .leaves ≡ 0) (t0 : f0 .last ≡ 0) where
+  module _ (all : ℕ) (ends : all ≡ n + length (o .rest)) (l0 : f0 .leaves ≡ 0) (t0 : f0 .last ≡ 0) where
     abbrev A : List ℕ
     A = take (x .offset) (o .rest)
 
@@ -206,27 +213,23 @@ module _ (i : tree.Index) (body : List ℕ) (f0 : Flow) (n : ℕ) (read : tree.s
     B = drop (x .offset) (o .rest)
 
     -- what the tree says from the material on
-    abbrev tiled : List ℕ → Option (List Leaf)
-    tiled ys = andThen (tile (i .id) (underIndex (i .id) (i .scale) 3) (all - length ys) (i .time) (i .entries) ys) (λ is. pick (neverFall 0 (allTimes is)) (some (map leafOf is)) none)
-
-    material-is : material o ≡ pick (eqb (length (o .rest)) (i .offset + sizes (i .entries))) (andThen (gapBoxes A) (λ gap. some B)) none
-    unfolding material
-    material-is = rw is-index
+    abbrev tiled : List ℕ → Option (List Part)
+    tiled ys = andThen (tile (i .id) (underIndex (i .id) (i .scale) 3) (all - length ys) (i .time) (i .entries) ys) (λ ps. pick (neverFall 0 (timesIn ps)) (some ps) none)
 
     -- the material is not as long as the entries say
     wrong-length : length (o .rest) ≢ i .offset + sizes (i .entries) → told (andThen (material o) tiled) (seated (f0 .table)) ≡ wrong
-    unfolding told andThen pick
-    wrong-length ne = rw (material-is, ne-eqb (length (o .rest)) (i .offset + sizes (i .entries)) ne)
+    unfolding told andThen pick material
+    wrong-length ne = rw (ne-eqb (length (o .rest)) (i .offset + sizes (i .entries)) ne)
 
-    right-length : length (o .rest) ≡ i .offset + sizes (i .entries) → told (andThen (material o) tiled) (seated (f0 .table)) ≡ told (gapBoxes A) (λ gap. told (items B) (said (f0 .table)))
-    unfolding told andThen
+    right-length : length (o .rest) ≡ i .offset + sizes (i .entries) → told (andThen (material o) tiled) (seated (f0 .table)) ≡ told (gapBoxes A) (λ gap. told (parts B) (said (f0 .table)))
+    unfolding told andThen material
     right-length e =
         let lb : length B ≡ length (o .rest) - x .offset = length-drop (x .offset) (o .rest) in
         let q : all - length B ≡ n + x .offset = omega arith in
-        ap (λ (z : Option (List ℕ)). told (andThen z tiled) (seated (f0 .table))) (material-is ∙ pick-yes (eqb (length (o .rest)) (i .offset + sizes (i .entries))) _ _ (eq-eqb (length (o .rest)) (i .offset + sizes (i .entries)) e))
+        ap (λ (z : Option (List ℕ)). told (andThen z tiled) (seated (f0 .table))) (pick-yes (eqb (length (o .rest)) (i .offset + sizes (i .entries))) _ _ (eq-eqb (length (o .rest)) (i .offset + sizes (i .entries)) e))
         ∙ told-then (andThen (gapBoxes A) (λ gap. some B)) tiled (seated (f0 .table))
         ∙ told-then (gapBoxes A) (λ gap. some B) (λ ys. told (tiled ys) (seated (f0 .table)))
-        ∙ told-cong (gapBoxes A) (λ gap. told (tiled B) (seated (f0 .table))) (λ gap. told (items B) (said (f0 .table)))
+        ∙ told-cong (gapBoxes A) (λ gap. told (tiled B) (seated (f0 .table))) (λ gap. told (parts B) (said (f0 .table)))
         (λ gap r. told-then (tile (i .id) (underIndex (i .id) (i .scale) 3) (all - length B) (i .time) (i .entries) B) _ (seated (f0 .table)) ∙ rw q)
 
     rest-meets : Meets (judge (materialD x (withEntries f0 topmost i body) n (o .rest)) final) (told (andThen (material o) tiled) (seated (f0 .table)))
@@ -259,7 +262,7 @@ module _ (i : tree.Index) (body : List ℕ) (f0 : Flow) (n : ℕ) (read : tree.s
             ⊎-elim (λ (lt : length B < sizes (i .entries)). not-exact l (λ q. omega arith) (shorter B lt))
             (λ (le : sizes (i .entries) ≤ length B).
             rw (right-length (omega arith), read-gap l)
-            (told-meets (gapBoxes A) (λ gap. under B ending) (λ gap. told (items B) (said (f0 .table))) (λ gap e. exact l0 t0 B (omega arith))))
+            (told-meets (gapBoxes A) (λ gap. under B ending) (λ gap. told (parts B) (said (f0 .table))) (λ gap e. exact l0 t0 B (omega arith))))
             (lt-or-ge (length B) (sizes (i .entries))))
             (lt-or-ge (sizes (i .entries)) (length B))
 
@@ -273,15 +276,15 @@ module _ (brand : ℕ) (xs work table : List ℕ) (small : length xs ≤ limit) 
 
   -- what the reading makes of a top index, and what the tree does
   abbrev read-top : Opened → Verdict Listing
-  read-top o = told (atTop f0 (λ x g m cs. some (after-top x g m cs)) (length xs) xs o) (λ v. v)
+  read-top o = told (atTop f0 (λ x g m cs. some (after-top x g m cs)) (length xs) o) (λ v. v)
 
-  abbrev leaves-of : Opened → Option (List Leaf)
-  leaves-of o =
+  abbrev parts-of : Opened → Option (List Part)
+  parts-of o =
       andThen (material o) (λ ys. andThen (tile (o .index .id) (underIndex (o .index .id) (o .index .scale) 3) (length xs - length ys) (o .index .time) (o .index .entries) ys)
-      (λ is. pick (neverFall 0 (allTimes is)) (some (map leafOf is)) none))
+      (λ ps. pick (neverFall 0 (timesIn ps)) (some ps) none))
 
   abbrev say-top : Opened → Verdict Listing
-  say-top o = told (pick (ltb (o .index .time + durations (o .index .entries)) timeLimit) (leaves-of o) none) (seated table)
+  say-top o = told (pick (ltb (o .index .time + durations (o .index .entries)) timeLimit) (parts-of o) none) (seated table)
 
   read-is : judge (segmentD brand f0 0 xs) final ≡ told (topIndex brand xs) read-top
   unfolding segmentD
@@ -289,12 +292,13 @@ module _ (brand : ℕ) (xs work table : List ℕ) (small : length xs ≤ limit) 
       judge-after (openingD brand f0 0 xs) (λ x g m cs. materialD x g m cs) final
       ∙ judge-upon (openingD brand f0 0 xs) after-top (opening-numbers brand f0 0 xs)
       ∙ ap (λ (z : Option (Verdict Listing)). told z (λ v. v)) (opening-tree brand f0 (λ x g m cs. some (after-top x g m cs)) xs small)
-      ∙ told-then (topIndex brand xs) (atTop f0 (λ x g m cs. some (after-top x g m cs)) (length xs) xs) (λ v. v)
+      ∙ told-then (topIndex brand xs) (atTop f0 (λ x g m cs. some (after-top x g m cs)) (length xs)) (λ v. v)
 
-  say-is : told (segment brand xs) (seated table) ≡ told (topIndex brand xs) say-top
-  unfolding segment
+  say-is : told (segment brand xs) (λ ls. seat ls 0 table) ≡ told (topIndex brand xs) say-top
+  unfolding segment segmentParts told
   say-is =
-      ap (λ (z : Option (List Leaf)). told z (seated table)) (pick-no (ltb limit (length xs)) none _ (le-ltb limit (length xs) small))
+      told-then (segmentParts brand xs) (λ ps. some (leavesIn ps)) (λ ls. seat ls 0 table)
+      ∙ ap (λ (z : Option (List Part)). told z (seated table)) (pick-no (ltb limit (length xs)) none _ (le-ltb limit (length xs) small))
       ∙ told-then (topIndex brand xs) _ (seated table)
 
   module _ (o : Opened) (e : topIndex brand xs ≡ some o) where
@@ -302,15 +306,16 @@ module _ (brand : ℕ) (xs work table : List ℕ) (small : length xs ≤ limit) 
     index-end = topEnd (length xs) o
 
     abbrev goes-on : Verdict Listing
-    goes-on = after-top (indexFrom (o .index)) (withEntries f0 topmost (o .index) (topBody xs o)) index-end (o .rest)
+    goes-on = after-top (indexFrom (o .index)) (withEntries f0 topmost (o .index) (o .box .body)) index-end (o .rest)
 
-    rest-told : Meets goes-on (told (leaves-of o) (seated table))
-    rest-told = rest-meets (o .index) (topBody xs o) f0 index-end (topped brand xs o e .says) long o refl (length xs) (sym (topped brand xs o e .ends)) refl refl
+    ends : length xs ≡ index-end + length (o .rest)
+    ends = omega (arith, top-stands brand xs o e .ends)
 
-    too-far : limit < index-end + o .index .offset + sizes (o .index .entries) → told (leaves-of o) (seated table) ≡ wrong
-    too-far far =
-        let q : index-end + length (o .rest) ≡ length xs = topped brand xs o e .ends in
-        wrong-length (o .index) (topBody xs o) f0 index-end (topped brand xs o e .says) long o refl (length xs) (sym q) refl refl (λ z. omega arith)
+    rest-told : Meets goes-on (told (parts-of o) (seated table))
+    rest-told = rest-meets o f0 index-end (top-stands brand xs o e .says) long (length xs) ends refl refl
+
+    too-far : limit < index-end + o .index .offset + sizes (o .index .entries) → told (parts-of o) (seated table) ≡ wrong
+    too-far far = let q = ends in wrong-length o f0 index-end (top-stands brand xs o e .says) long (length xs) ends refl refl (λ z. omega arith)
 
     -- the sums of the top index
     sums-meet : (a b : Bool) → ltb limit (index-end + o .index .offset + sizes (o .index .entries)) ≡ a → leb timeLimit (o .index .time + durations (o .index .entries)) ≡ b →
@@ -335,7 +340,7 @@ module _ (brand : ℕ) (xs work table : List ℕ) (small : length xs ≤ limit) 
         rw (top-sums (topSpan (length xs) o) (indexFrom (o .index)) 0 index-end)
         (sums-meet (ltb limit (index-end + o .index .offset + sizes (o .index .entries))) (leb timeLimit (o .index .time + durations (o .index .entries))) refl refl)
 
-  pub read-meets : Meets (judge (segmentD brand f0 0 xs) final) (told (segment brand xs) (seated table))
+  pub read-meets : Meets (judge (segmentD brand f0 0 xs) final) (told (segment brand xs) (λ ls. seat ls 0 table))
   read-meets = rw (read-is, say-is) (told-meets (topIndex brand xs) read-top say-top top-meets)
 
 -- a byte after the material is refused with 21, or with 3
@@ -365,8 +370,8 @@ beyond-not x (cut l n) y ys = pick-not (eqb (x .number) 15) (full (x .place)) wr
 
 -- and are no segment
 segment-long : (brand : ℕ) (bytes : List ℕ) → limit < length bytes → segment brand bytes ≡ none
-unfolding segment
-segment-long brand bytes over = pick-yes (ltb limit (length bytes)) none _ (lt-ltb limit (length bytes) over)
+unfolding segment segmentParts andThen pick
+segment-long brand bytes over = rw (lt-ltb limit (length bytes) over)
 
 -- Law T.
 pub law-t : (brand : ℕ) (bytes work table : List ℕ) → workBytes ≤ length work → Meets (verdictOf (wholeD brand bytes work table)) (told (segment brand bytes) (λ ls. seat ls 0 table))

@@ -20,7 +20,8 @@ use Rattle.state.specs.Flow.{Flow, Left, left}
 use Rattle.demands.specs.Told.{upon, clean, headLength, headerOf}
 use Rattle.demands.specs.Walks.{Walk, walk}
 use Rattle.demands.proofs.Upons.{upon-either, upon-unless, pick-and}
-use Rattle.demands.proofs.HeadTree.{FirstBox, first-box, box-tree}
+use Rattle.demands.proofs.HeadTree.{box-tree}
+use Rattle.segment.proofs.Said.{FirstBox, first-box}
 
 -- Whole boxes of the tree.
 

@@ -6,16 +6,15 @@ use mathlib.Core.Option.{Option, some, none}
 use mathlib.Core.Bool.{Bool, true, false, not, _&&_, _||_}
 use native.Mathlib.Omega.{arith}
 use lib.ListN.{length, drop, length-drop}
-use lib.Seq.{drop-drop}
 use lib.Dec.{eqb, ltb, leb}
 use borrow.Author.Tests.{eqb-true, ltb-true, ltb-false}
 use Rattle.basics.specs.Choose.{pick, andThen}
-use Rattle.basics.specs.Bytes.{AllBytes}
 use Rattle.basics.proofs.Picks.{pick-if, pick-both}
 use Rattle.basics.proofs.Options.{absurd-some, then-cong, then-assoc, then-inv, pick-some, pick-else}
 use Rattle.segment.specs.Constants.{limit, timeLimit, styp, sidx, moof, mdat}
-use Rattle.segment.specs.Boxes.{Index as BoxesIndex, Box, firstBox, among, stypBrands, sidxIndex}
-use Rattle.segment.specs.Tree.{topKinds, openIndex, firstIndex, topIndex}
+use Rattle.segment.specs.Boxes.{Index as BoxesIndex, Box, firstBox, topKinds, among, stypBrands, sidxIndex}
+use Rattle.segment.specs.Tree.{openIndex, firstIndex, topIndex}
+use Rattle.segment.proofs.Said.{FirstBox, first-box}
 use Rattle.segment.specs.Tree as tree
 use Rattle.machine.specs.Faults.{unless}
 use Rattle.machine.specs.Run.{Res, okay, either, after}
@@ -28,14 +27,13 @@ use Rattle.state.specs.declared.Index.{Index}
 use Rattle.state.specs.Flow.{Flow, Left, left}
 use Rattle.state.specs.Rows.{is, bodyLength, topLengths, openingFaults}
 use Rattle.state.specs.Sidx.{Place, topmost, sumFaults}
-use Rattle.basics.proofs.Bytes.{bytes-first, all-drop}
 use Rattle.state.specs.Opening.{Opened, passed, indexed, spanOf, openingBox, closeOpening, opening}
 use Rattle.descent.specs.Sidx.{sidxD}
 use Rattle.descent.specs.Opening.{skipTo, stypD, openingBodyD, openingD}
 use Rattle.demands.specs.Told.{upon, clean, headLength, headerOf, indexFrom, withEntries, suits}
 use Rattle.demands.proofs.Upons.{upon-either, upon-after, clean-append, clean-shows}
-use Rattle.demands.proofs.HeadTree.{FirstBox, first-box, box-open}
-use Rattle.demands.proofs.SidxTree.{sidx-tree, sidx-cut, sidx-short, sidx-facts, suits-topmost}
+use Rattle.demands.proofs.HeadTree.{box-open}
+use Rattle.demands.proofs.SidxTree.{sidx-fitting, sidx-cut, sidx-facts, suits-topmost}
 use Rattle.demands.proofs.StypTree.{misfit, styp-checked, styp-cut}
 
 -- the tests of a header before the top index
@@ -101,105 +99,16 @@ later-shown {X} h A B C = rw (faults-clean true h) (by (is h sidx) refl)
     by true e = rw (other h sidx styp refl e, other h sidx moof refl e, other h sidx mdat refl e) (holds' (not (ltb (bodyLength h) 24)) B)
     by false e = passes (is h styp) (misfit (bodyLength h)) (is h moof) (is h mdat) A C
 
--- Where the top index ends, in so many bytes in all; where its box stands; and its body.
+-- Where the top index ends, in so many bytes in all, and where its box stands.
 abbrev pub topEnd : ℕ → tree.Opened → ℕ
 topEnd all top = all - length (top .rest)
 
 abbrev pub topSpan : ℕ → tree.Opened → Span
-topSpan all top = record { pos = topEnd all top - top .size; end = topEnd all top }
-
-unfoldable pub bodyIn : Option Box → List ℕ
-bodyIn none = []
-bodyIn (some b) = b .body
-
-abbrev pub topBody : List ℕ → tree.Opened → List ℕ
-topBody bs top = bodyIn (firstBox (drop (topEnd (length bs) top - top .size) bs))
-
--- What is known of a top index found in bytes.
-pub record Topped (bs : List ℕ) (top : tree.Opened) : Type 0 where
-  -- its box and what follows are within the bytes
-  pub fits : top .size + length (top .rest) ≤ length bs
-  -- where it ends, what follows it begins
-  pub ends : topEnd (length bs) top + length (top .rest) ≡ length bs
-  pub follows : top .rest ≡ drop (topEnd (length bs) top) bs
-  -- its body says the index
-  pub says : sidxIndex (topBody bs top) ≡ some (top .index)
-  -- its body and what follows are bytes of those
-  pub bytes : AllBytes bs → AllBytes (topBody bs top)
-  pub rest-bytes : AllBytes bs → AllBytes (top .rest)
-
--- the body of the box that bytes start with
-pub body-bytes : (xs : List ℕ) (b : Box) → firstBox xs ≡ some b → AllBytes xs → AllBytes (b .body)
-body-bytes xs b e a = bytes-first (b .body) (drop (b .size) xs) (rw (first-box xs b e .inside) at (all-drop (headLength b) xs a))
+topSpan all top = record { pos = topEnd all top - top .box .size; end = topEnd all top }
 
 -- a header's body length is the length of the body
 pub body-long : (n : ℕ) (xs : List ℕ) (b : Box) → FirstBox xs b → bodyLength (headerOf n b) ≡ length (b .body)
 body-long n xs b fb = omega (arith, fb .bodied)
-
--- an index that the bytes start with
-topped-here : (bs : List ℕ) (b : Box) (i : BoxesIndex) → firstBox bs ≡ some b → sidxIndex (b .body) ≡ some i → Topped bs (record { index = i; size = b .size; rest = drop (b .size) bs })
-unfolding bodyIn
-topped-here bs b i e s =
-    let fits : b .size ≤ length bs = first-box bs b e .fits in
-    let d : length (drop (b .size) bs) ≡ length bs - b .size = length-drop (b .size) bs in
-    let q : length bs - length (drop (b .size) bs) ≡ b .size = omega arith in
-    let z : b .size - b .size ≡ 0 = omega arith in
-    record {
-      fits = omega arith;
-      ends = omega arith;
-      follows = rw q;
-      says = rw (q, z, e) s;
-      bytes = λ a. rw (q, z, e) (body-bytes bs b e a);
-      rest-bytes = λ a. all-drop (b .size) bs a;
-    }
-
--- its body is the same in bytes that begin sooner
-same-body : (s : ℕ) (bs : List ℕ) (top : tree.Opened) → s ≤ length bs → top .size + length (top .rest) ≤ length (drop s bs) → topBody (drop s bs) top ≡ topBody bs top
-same-body s bs top l fits =
-    let d : length (drop s bs) ≡ length bs - s = length-drop s bs in
-    let q : s + (length (drop s bs) - length (top .rest) - top .size) ≡ length bs - length (top .rest) - top .size = omega arith in
-    ap (λ cs. bodyIn (firstBox cs)) (drop-drop (length (drop s bs) - length (top .rest) - top .size) s bs ∙ ap (λ m. drop m bs) q)
-
-topped-later : (s : ℕ) (bs : List ℕ) (top : tree.Opened) → s ≤ length bs → Topped (drop s bs) top → Topped bs top
-topped-later s bs top l t =
-    let d : length (drop s bs) ≡ length bs - s = length-drop s bs in
-    let fits : top .size + length (top .rest) ≤ length (drop s bs) = t .fits in
-    let q : s + (length (drop s bs) - length (top .rest)) ≡ length bs - length (top .rest) = omega arith in
-    let w = same-body s bs top l fits in
-    record {
-      fits = omega arith;
-      ends = omega arith;
-      follows = t .follows ∙ drop-drop (length (drop s bs) - length (top .rest)) s bs ∙ ap (λ m. drop m bs) q;
-      says = rw w at (t .says);
-      bytes = λ a. rw w at (t .bytes (all-drop s bs a));
-      rest-bytes = λ a. t .rest-bytes (all-drop s bs a);
-    }
-
--- one box before the index, or the index
-one-topped : (bs : List ℕ) (b : Box) (o : Option tree.Opened) (top : tree.Opened) → firstBox bs ≡ some b → (o ≡ some top → Topped (drop (b .size) bs) top) →
-    (t : Bool) → pick t (openIndex b bs) (pick (among (b .kind) topKinds) none o) ≡ some top → Topped bs top
-unfolding openIndex pick
-one-topped bs b o top e ih true q =
-    let (i, s, w) = then-inv (sidxIndex (b .body)) (λ i. some (record { index = i; size = b .size; rest = drop (b .size) bs })) top q in
-    let w' : record { index = i; size = b .size; rest = drop (b .size) bs } ≡ top = cc in
-    rw (← w') (topped-here bs b i e s)
-one-topped bs b o top e ih false q = topped-later (b .size) bs top (first-box bs b e .fits) (ih (pick-else (among (b .kind) topKinds) o top q .1))
-
--- the first index after boxes that are skipped
-first-topped : (fuel : ℕ) (bs : List ℕ) (top : tree.Opened) → firstIndex fuel bs ≡ some top → Topped bs top
-unfolding firstIndex
-first-topped zero bs top e = absurd-some e
-first-topped (suc fuel) bs top e =
-    let (b, eb, q) = then-inv (firstBox bs) _ top e in
-    one-topped bs b (firstIndex fuel (drop (b .size) bs)) top eb (λ r. first-topped fuel (drop (b .size) bs) top r) (eqb (b .kind) sidx) q
-
--- What rule 1 finds as the top index is an index of those bytes.
-pub topped : (brand : ℕ) (bs : List ℕ) (top : tree.Opened) → topIndex brand bs ≡ some top → Topped bs top
-unfolding topIndex
-topped brand bs top e =
-    let (b, eb, q) = then-inv (firstBox bs) _ top e in
-    let (brands, es, q') = then-inv (stypBrands (b .body)) _ top (pick-some (eqb (b .kind) styp) _ top q .1) in
-    topped-later (b .size) bs top (first-box bs b eb .fits) (first-topped (length bs) (drop (b .size) bs) top (pick-some (among brand brands) _ top q' .1))
 
 -- the sums of the top index: the material ends within the limit, and its times are below theirs
 pub top-sums : (span : Span) (x : Index) (now n : ℕ) → clean (sumFaults topmost span x now n) ≡ not (ltb limit (n + x .offset + x .sizes) || leb timeLimit (x .time + x .durations))
@@ -212,21 +121,9 @@ module _ {X : Type 0} (f : Flow) (k : Index → Flow → ℕ → List ℕ → Op
   fromTop span body i rest =
       pick (clean (sumFaults topmost span (indexFrom i) (f .now) (span .end))) (k (indexFrom i) (withEntries f topmost i body) (span .end) rest) none
 
-  -- the same of an index found in bytes, which end at a place
-  abbrev pub atTop : ℕ → List ℕ → tree.Opened → Option X
-  atTop all bs top = fromTop (topSpan all top) (topBody bs top) (top .index) (top .rest)
-
--- an index in its place, its body all there
-pub sidx-fitting : {X : Type 0} (p : Place) (span : Span) (f : Flow) (n : ℕ) (xs ys : List ℕ) (k : Index → Flow → ℕ → List ℕ → Option X) → n + length xs ≡ span .end →
-    pick (not (ltb (length xs) 24)) (upon (sidxD p span f n (xs ++ ys)) k) none
-    ≡ andThen (sidxIndex xs) (λ i. pick (suits p span i (f .now)) (k (indexFrom i) (withEntries f p i xs) (span .end) ys) none)
-unfolding pick andThen
-sidx-fitting p span f n xs ys k e = by (ltb (length xs) 24) refl
-  where
-    by : (t : Bool) → ltb (length xs) 24 ≡ t → pick (not t) (upon (sidxD p span f n (xs ++ ys)) k) none
-        ≡ andThen (sidxIndex xs) (λ i. pick (suits p span i (f .now)) (k (indexFrom i) (withEntries f p i xs) (span .end) ys) none)
-    by true q = rw (sidx-short xs (ltb-true (length xs) 24 q))
-    by false q = sidx-tree p span f n xs ys k e (ltb-false (length xs) 24 q)
+  -- the same of an index found in so many bytes
+  abbrev pub atTop : ℕ → tree.Opened → Option X
+  atTop all top = fromTop (topSpan all top) (top .box .body) (top .index) (top .rest)
 
 -- the top index, its body all there
 top-fitting : {X : Type 0} (f : Flow) (k : Index → Flow → ℕ → List ℕ → Option X) (span : Span) (n : ℕ) (xs ys : List ℕ) → n + length xs ≡ span .end →
@@ -316,30 +213,21 @@ module _ {X : Type 0} (brand : ℕ) (f : Flow) where
 
     -- the index that the bytes start with
     here : (all n : ℕ) (bs : List ℕ) (b : Box) → firstBox bs ≡ some b → n + length bs ≡ all →
-        andThen (sidxIndex (b .body)) (λ i. fromTop f k (spanOf (headerOf n b)) (b .body) i (drop (b .size) bs)) ≡ andThen (openIndex b bs) (atTop f k all bs)
-    unfolding openIndex andThen bodyIn
+        andThen (sidxIndex (b .body)) (λ i. fromTop f k (spanOf (headerOf n b)) (b .body) i (drop (b .size) bs)) ≡ andThen (openIndex b bs) (atTop f k all)
+    unfolding openIndex andThen
     here all n bs b e l =
         then-cong (sidxIndex (b .body)) _ _
         (λ i s.
         let fits : b .size ≤ length bs = first-box bs b e .fits in
         let d : length (drop (b .size) bs) ≡ length bs - b .size = length-drop (b .size) bs in
         let q : all - length (drop (b .size) bs) ≡ n + b .size = omega arith in
-        let q' : length bs - length (drop (b .size) bs) - b .size ≡ 0 = omega arith in
         let p : n + b .size - b .size ≡ n = omega arith in
-        rw (q, q', p, e))
-        ∙ sym (then-assoc (sidxIndex (b .body)) (λ i. some (record { index = i; size = b .size; rest = drop (b .size) bs })) (atTop f k all bs))
-
-    -- what is found after a box
-    there : (fuel all : ℕ) (bs : List ℕ) (b : Box) → firstBox bs ≡ some b →
-        andThen (firstIndex fuel (drop (b .size) bs)) (atTop f k all (drop (b .size) bs)) ≡ andThen (firstIndex fuel (drop (b .size) bs)) (atTop f k all bs)
-    there fuel all bs b e =
-        then-cong (firstIndex fuel (drop (b .size) bs)) _ _
-        (λ top q. ap (λ body. fromTop f k (topSpan all top) body (top .index) (top .rest))
-        (same-body (b .size) bs top (first-box bs b e .fits) (first-topped fuel (drop (b .size) bs) top q .fits)))
+        rw (q, p))
+        ∙ sym (then-assoc (sidxIndex (b .body)) (λ i. some (record { box = b; index = i; rest = drop (b .size) bs })) (atTop f k all))
 
     -- Boxes that are skipped, up to the first index. More turns than there are bytes, and more fuel, change nothing.
     later-tree : (fuel turns all n : ℕ) (bs : List ℕ) → length bs < fuel → length bs < turns → n + length bs ≡ all → all ≤ limit →
-        upon (boxesFrom turns true n bs) k ≡ andThen (firstIndex fuel bs) (atTop f k all bs)
+        upon (boxesFrom turns true n bs) k ≡ andThen (firstIndex fuel bs) (atTop f k all)
     unfolding firstIndex andThen
     later-tree zero turns all n bs l t e m = absurd (omega arith)
     later-tree (suc fuel) zero all n bs l t e m = absurd (omega arith)
@@ -350,17 +238,16 @@ module _ {X : Type 0} (brand : ℕ) (f : Flow) where
         let fb = first-box bs b q in
         ap (λ (o : Option X). pick (clean (openingFaults true (headerOf n b))) o none) (by-kind turns true n bs b fb)
         ∙ later-shown (headerOf n b) _ _ _
-        ∙ pick-both (eqb (b .kind) sidx) (λ o. o) (λ o. andThen o (atTop f k all bs)) _ _ _ _
+        ∙ pick-both (eqb (b .kind) sidx) (λ o. o) (λ o. andThen o (atTop f k all)) _ _ _ _
         (on-sidx turns true n bs b fb ∙ here all n bs b q e)
-        (pick-both (among (b .kind) topKinds) (λ o. o) (λ o. andThen o (atTop f k all bs)) _ _ _ _ refl
+        (pick-both (among (b .kind) topKinds) (λ o. o) (λ o. andThen o (atTop f k all)) _ _ _ _ refl
         (on-skip turns true n bs b fb
         ∙ later-tree fuel turns all (n + b .size) (drop (b .size) bs) (omega (arith, fb .fits, fb .eight, length-drop (b .size) bs)) (omega (arith, fb .fits, fb .eight, length-drop (b .size) bs))
-        (omega (arith, fb .fits, length-drop (b .size) bs)) m
-        ∙ there fuel all bs b q)))
-        ∙ sym (then-assoc (firstBox bs) _ (atTop f k all bs))
+        (omega (arith, fb .fits, length-drop (b .size) bs)) m)))
+        ∙ sym (then-assoc (firstBox bs) _ (atTop f k all))
 
     -- The boxes up to the top index: accepted where rule 1 finds the index and its sums show no fault.
-    pub opening-tree : (bs : List ℕ) → length bs ≤ limit → upon (openingD brand f 0 bs) k ≡ andThen (topIndex brand bs) (atTop f k (length bs) bs)
+    pub opening-tree : (bs : List ℕ) → length bs ≤ limit → upon (openingD brand f 0 bs) k ≡ andThen (topIndex brand bs) (atTop f k (length bs))
     unfolding topIndex andThen
     opening-tree bs m =
         one-box (length bs) false 0 bs (omega arith)
@@ -369,14 +256,13 @@ module _ {X : Type 0} (brand : ℕ) (f : Flow) where
         let fb = first-box bs b q in
         ap (λ (o : Option X). pick (clean (openingFaults false (headerOf 0 b))) o none) (by-kind (length bs) false 0 bs b fb)
         ∙ first-shown (headerOf 0 b) _ _ _
-        ∙ pick-both (eqb (b .kind) styp) (λ o. o) (λ o. andThen o (atTop f k (length bs) bs)) _ _ _ _
+        ∙ pick-both (eqb (b .kind) styp) (λ o. o) (λ o. andThen o (atTop f k (length bs))) _ _ _ _
         (on-styp (length bs) false 0 bs b fb
         ∙ then-cong (stypBrands (b .body)) _ _
-        (λ brands r. pick-both (among brand brands) (λ o. o) (λ o. andThen o (atTop f k (length bs) bs)) _ _ _ _
+        (λ brands r. pick-both (among brand brands) (λ o. o) (λ o. andThen o (atTop f k (length bs))) _ _ _ _
         (later-tree (length bs) (length bs) (length bs) (0 + b .size) (drop (b .size) bs) (omega (arith, fb .fits, fb .eight, length-drop (b .size) bs))
-        (omega (arith, fb .fits, fb .eight, length-drop (b .size) bs)) (omega (arith, fb .fits, length-drop (b .size) bs)) m
-        ∙ there (length bs) (length bs) bs b q)
+        (omega (arith, fb .fits, fb .eight, length-drop (b .size) bs)) (omega (arith, fb .fits, length-drop (b .size) bs)) m)
         refl)
-        ∙ sym (then-assoc (stypBrands (b .body)) _ (atTop f k (length bs) bs)))
+        ∙ sym (then-assoc (stypBrands (b .body)) _ (atTop f k (length bs))))
         refl)
-        ∙ sym (then-assoc (firstBox bs) _ (atTop f k (length bs) bs))
+        ∙ sym (then-assoc (firstBox bs) _ (atTop f k (length bs)))

@@ -12,7 +12,7 @@ use Rattle.segment.specs.Parts.{At}
 use Rattle.basics.specs.Choose.{pick}
 use Rattle.basics.proofs.Options.{absurd-some}
 use Rattle.segment.specs.Leaves.{neverFall}
-use Rattle.segment.specs.Tree.{Leaf, Item, allTimes, leafOf}
+use Rattle.segment.specs.Tree.{Leaf, Part, leafPart, indexPart, timesIn, leavesIn}
 use Rattle.state.specs.declared.Seen.{Seen}
 use Rattle.state.specs.Flow.{Flow, listed}
 use Rattle.table.specs.Table.{room, recordNumbers, numbersOf, putRecord}
@@ -55,21 +55,21 @@ climb-off s (t ∷ ts) us e s' c = at (ltb t (s .last)) refl e c (λ r d. climb-
 abbrev pub listing : Flow → Verdict Listing
 listing f = fine (record { leaves = f .leaves; table = f .table })
 
-pub enlist-seat : (is : List Item) (f : Flow) → neverFall (f .last) (allTimes is) ≡ true → enlist is f listing ≡ seat (map leafOf is) (f .leaves) (f .table)
-unfolding enlist seat allTimes told listed
+pub enlist-seat : (ps : List Part) (f : Flow) → neverFall (f .last) (timesIn ps) ≡ true → enlist ps f listing ≡ seat (leavesIn ps) (f .leaves) (f .table)
+unfolding enlist seat timesIn leavesIn told listed
 enlist-seat [] f e = refl
-enlist-seat (i ∷ is) f e =
-    let c = climb-on (seen0 (f .last)) (i .times) (allTimes is) e in
-    ap (pick (noRoom (f .leaves) (f .table)) (full (i .leaf .position)))
-    (rw (c .climbed) (enlist-seat is (listed f (recordOf (i .leaf)) (i .leaf .start + i .leaf .duration) (c .top .last)) (c .rest)))
+enlist-seat (leafPart l ts ∷ ps) f e =
+    let c = climb-on (seen0 (f .last)) ts (timesIn ps) e in
+    ap (pick (noRoom (f .leaves) (f .table)) (full (l .position))) (rw (c .climbed) (enlist-seat ps (listed f (rowOf l) (l .start + l .duration) (c .top .last)) (c .rest)))
+enlist-seat (indexPart p s ∷ ps) f e = enlist-seat ps f e
 
-pub enlist-falls : {X : Type 0} (is : List Item) (f : Flow) (k : Flow → Verdict X) → neverFall (f .last) (allTimes is) ≡ false → NotFine (enlist is f k)
-unfolding enlist allTimes neverFall listed
+pub enlist-falls : {X : Type 0} (ps : List Part) (f : Flow) (k : Flow → Verdict X) → neverFall (f .last) (timesIn ps) ≡ false → NotFine (enlist ps f k)
+unfolding enlist timesIn neverFall listed
 enlist-falls [] f k e = absurd (true≢false e)
-enlist-falls (i ∷ is) f k e =
-    pick-not (noRoom (f .leaves) (f .table)) (full (i .leaf .position)) _ tt
-    (told-not (climb (seen0 (f .last)) (i .times)) _
-    (λ s c. enlist-falls is (listed f (recordOf (i .leaf)) (i .leaf .start + i .leaf .duration) (s .last)) k (climb-off (seen0 (f .last)) (i .times) (allTimes is) e s c)))
+enlist-falls (leafPart l ts ∷ ps) f k e =
+    pick-not (noRoom (f .leaves) (f .table)) (full (l .position)) _ tt
+    (told-not (climb (seen0 (f .last)) ts) _ (λ s c. enlist-falls ps (listed f (rowOf l) (l .start + l .duration) (s .last)) k (climb-off (seen0 (f .last)) ts (timesIn ps) e s c)))
+enlist-falls (indexPart p s ∷ ps) f k e = enlist-falls ps f k e
 
 -- The room is a table's length, which no record changes.
 room-put : (table : List ℕ) (i : ℕ) (xs : List ℕ) → room (putAll table i xs) ≡ room table

@@ -9,8 +9,7 @@ use native.Mathlib.Omega.{arith}
 use lib.Dec.{eqb, ltb}
 use lib.ListN.{length, take, drop, length-append, length-drop, take-append-drop, drop-of-length-le}
 use lib.Seq.{take-append-le, drop-append-le, drop-drop, take-add, take-all, length-take-le}
-use borrow.Author.Tests.{not-true, not-false, ltb-false, eqb-true, eqb-false, ne-eqb, le-ltb}
-use Rattle.table.specs.Table.{room}
+use borrow.Author.Tests.{not-true, not-false, ltb-true, ltb-false, eqb-true, eqb-false, ne-eqb, le-ltb}
 use Rattle.basics.specs.Choose.{pick, andThen}
 use Rattle.basics.specs.Bytes.{numberFrom, number}
 use Rattle.basics.proofs.Picks.{lt-or-ge, pick-with}
@@ -19,6 +18,8 @@ use Rattle.basics.proofs.Options.{then-cong, then-none, then-assoc, then-inv, t
 use Rattle.segment.specs.Constants.{entryBytes, mostEntries}
 use Rattle.segment.specs.Boxes.{provided, unless, Field, field, Entry, entryOf, entriesOf, sizes, durations, timeBytes, sidxIndex}
 use Rattle.segment.specs.Boxes as tree
+use Rattle.segment.proofs.Said.{field-some}
+use Rattle.segment.proofs.NonEmpty.{entries-count, Sized, entries-sized}
 use Rattle.machine.specs.Faults.{shows}
 use Rattle.machine.specs.Faults as faults
 use Rattle.machine.specs.Run.{Res, okay, fail, fieldD, plain}
@@ -40,7 +41,7 @@ use Rattle.state.specs.Sidx.{Place, topmost, under, partOf, sidxVersionFaults, 
 use Rattle.descent.specs.Sidx.{closeD, entryD, entriesD, countedD, countD, reservedD, offsetD, timeD, scaleD, idD, flagsD, versionD, sidxD}
 use Rattle.demands.specs.Told.{upon, clean, indexFrom, entryPart, withEntries, suits}
 use Rattle.demands.proofs.Upons.{upon-unless, upon-okay, clean-append, clean-shows, upon-field}
-use Rattle.demands.proofs.Stored.{put-more, field-some, entryHere, entry-here, entries-count, Sized, entries-sized, Alike, put-alike, Holds, holds}
+use Rattle.demands.proofs.Stored.{put-more, entryHere, entry-here}
 
 -- what flows with bytes put into the work area
 abbrev pub putInto : Flow → ℕ → List ℕ → Flow
@@ -634,6 +635,18 @@ pub sidx-tree : {X : Type 0} (p : Place) (span : Span) (f : Flow) (n : ℕ) (xs 
     upon (sidxD p span f n (xs ++ ys)) k ≡ andThen (sidxIndex xs) (λ i. pick (suits p span i (f .now)) (k (indexFrom i) (withEntries f p i xs) (span .end) ys) none)
 sidx-tree p span f n xs ys k e l = body-tree p span k f n xs ys e l
 
+-- an index in its place, its body all there
+pub sidx-fitting : {X : Type 0} (p : Place) (span : Span) (f : Flow) (n : ℕ) (xs ys : List ℕ) (k : Index → Flow → ℕ → List ℕ → Option X) → n + length xs ≡ span .end →
+    pick (not (ltb (length xs) 24)) (upon (sidxD p span f n (xs ++ ys)) k) none
+    ≡ andThen (sidxIndex xs) (λ i. pick (suits p span i (f .now)) (k (indexFrom i) (withEntries f p i xs) (span .end) ys) none)
+unfolding pick andThen
+sidx-fitting p span f n xs ys k e = by (ltb (length xs) 24) refl
+  where
+    by : (t : Bool) → ltb (length xs) 24 ≡ t → pick (not t) (upon (sidxD p span f n (xs ++ ys)) k) none
+        ≡ andThen (sidxIndex xs) (λ i. pick (suits p span i (f .now)) (k (indexFrom i) (withEntries f p i xs) (span .end) ys) none)
+    by true q = rw (sidx-short xs (ltb-true (length xs) 24 q))
+    by false q = sidx-tree p span f n xs ys k e (ltb-false (length xs) 24 q)
+
 -- A refusal in an index is not 15.
 abbrev Other : Refusal → Type 0
 Other x = x .number ≢ 15
@@ -779,48 +792,31 @@ sidx-cut p span f n bs k l = upon-okay (sidxD p span f n bs) k (λ x g m cs e. l
 pub sidx-numbers : (p : Place) (span : Span) (f : Flow) (n : ℕ) (bs : List ℕ) (x : Refusal) (l : Left) (m : ℕ) → sidxD p span f n bs ≡ fail x l m → x .number ≢ 15
 sidx-numbers p span f n bs x l m e = says-fail (Ends p span (n + length bs)) (λ y l i. Other y) (sidxD p span f n bs) x l m e (sidx-told p span (n + length bs) f n bs refl)
 
--- The entries of an index are held in its level's part, and what is below that part is left alone.
-pub sidx-holds : (p : Place) (f : Flow) (xs : List ℕ) (i : tree.Index) → partOf p + levelBytes ≤ length (f .work) → sidxIndex xs ≡ some i → Holds (withEntries f p i xs .work) (partOf p) (i .entries)
-sidx-holds p f xs i room e =
-    let facts = sidx-facts xs i e in
-    let few = facts .few in
-    let long = facts .part-long in
-    holds (f .work) (partOf p) (length (i .entries)) (entryPart i xs) (i .entries) (omega arith) (omega arith) (facts .part-read)
-
-pub sidx-alike : (p : Place) (f : Flow) (xs : List ℕ) (i : tree.Index) → Alike (partOf p) (f .work) (withEntries f p i xs .work)
-sidx-alike p f xs i = put-alike (partOf p) (f .work) (partOf p) (entryPart i xs) (omega arith)
-
 -- The top index suits its place where its sums do.
 pub suits-topmost : (span : Span) (i : tree.Index) (now : ℕ) → 0 < i .scale → suits topmost span i now ≡ clean (sumFaults topmost span (indexFrom i) now (span .end))
 unfolding suits idFaults scaleFaults timeFaults offsetFaults clean
 suits-topmost span i now l = let q : eqb (i .scale) 0 ≡ false = ne-eqb (i .scale) 0 (λ z. omega arith) in rw (clean-shows (eqb (i .scale) 0) 11 (span .pos), q)
 
 -- the tests of rule 4, in the tree's order
-inner-tests : {A : Type 0} (id scale time offset size duration : Bool) (o : Option A) →
-    pick (not (not id) && (true && not (not scale)) && not (not time) && not (not offset) && not (not (size && duration))) o none
-    ≡ pick id (pick scale (pick offset (pick time (pick duration (pick size o none) none) none) none) none) none
-unfolding pick
-inner-tests false scale time offset size duration o = refl
-inner-tests true false time offset size duration o = refl
-inner-tests true true false true size duration o = refl
-inner-tests true true false false size duration o = refl
-inner-tests true true true false size duration o = refl
-inner-tests true true true true true true o = refl
-inner-tests true true true true true false o = refl
-inner-tests true true true true false true o = refl
-inner-tests true true true true false false o = refl
+inner-tests : (id scale time offset size duration : Bool) →
+    not (not id) && (true && not (not scale)) && not (not time) && not (not offset) && not (not (size && duration)) ≡ id && scale && offset && time && duration && size
+inner-tests false scale time offset size duration = refl
+inner-tests true false time offset size duration = refl
+inner-tests true true false true size duration = refl
+inner-tests true true false false size duration = refl
+inner-tests true true true false size duration = refl
+inner-tests true true true true true true = refl
+inner-tests true true true true true false = refl
+inner-tests true true true true false true = refl
+inner-tests true true true true false false = refl
 
 -- An inner index suits its place where rule 4 holds: its parent's ID and timescale, first offset 0, the start at which its entry stands, and the sums.
-pub suits-under : {A : Type 0} (top : Top) (slot : Slot) (around : ℕ) (span : Span) (i : tree.Index) (now : ℕ) (o : Option A) → 0 < i .scale →
-    pick (suits (under top slot around) span i now) o none
-    ≡ provided (eqb (i .id) (top .id))
-    (provided (eqb (i .scale) (top .scale))
-    (provided (eqb (i .offset) 0)
-    (provided (eqb (i .time) now)
-    (provided (eqb (now + durations (i .entries)) (slot .until))
-    (provided (eqb (span .end + sizes (i .entries)) (slot .end)) o)))))
+pub suits-under : (top : Top) (slot : Slot) (around : ℕ) (span : Span) (i : tree.Index) (now : ℕ) → 0 < i .scale →
+    suits (under top slot around) span i now
+    ≡ eqb (i .id) (top .id) && eqb (i .scale) (top .scale) && eqb (i .offset) 0 && eqb (i .time) now
+    && eqb (now + durations (i .entries)) (slot .until) && eqb (span .end + sizes (i .entries)) (slot .end)
 unfolding suits idFaults scaleFaults timeFaults offsetFaults sumFaults
-suits-under top slot around span i now o l =
+suits-under top slot around span i now l =
     let q : eqb (i .scale) 0 ≡ false = ne-eqb (i .scale) 0 (λ z. omega arith) in
     rw (
       clean-append (shows (eqb (i .scale) 0) 11 (span .pos)) (shows (not (eqb (i .scale) (top .scale))) 12 (span .pos)),
@@ -832,4 +828,4 @@ suits-under top slot around span i now o l =
       clean-shows (not (eqb (span .end + sizes (i .entries)) (slot .end) && eqb (now + durations (i .entries)) (slot .until))) 12 (span .pos),
       q,
     )
-    (inner-tests (eqb (i .id) (top .id)) (eqb (i .scale) (top .scale)) (eqb (i .time) now) (eqb (i .offset) 0) (eqb (span .end + sizes (i .entries)) (slot .end)) (eqb (now + durations (i .entries)) (slot .until)) o)
+    (inner-tests (eqb (i .id) (top .id)) (eqb (i .scale) (top .scale)) (eqb (i .time) now) (eqb (i .offset) 0) (eqb (span .end + sizes (i .entries)) (slot .end)) (eqb (now + durations (i .entries)) (slot .until)))

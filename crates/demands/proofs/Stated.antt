@@ -49,7 +49,7 @@ unfolding segmentD
 segment-top brand f bs top small e =
     let k : Index → Flow → ℕ → List ℕ → Option Top = λ x g m cs. upon (materialD x g m cs) given in
     let found : upon (openingD brand f 0 bs) k ≡ some top = sym (upon-after (openingD brand f 0 bs) materialD given) ∙ e in
-    let (o, opened, e1) = then-inv (topIndex brand bs) (atTop f k (length bs) bs) top (sym (opening-tree brand f k bs small) ∙ found) in
+    let (o, opened, e1) = then-inv (topIndex brand bs) (atTop f k (length bs)) top (sym (opening-tree brand f k bs small) ∙ found) in
     let (fine, e2) = pick-some _ _ top e1 in
     (o, opened, material-top (indexFrom (o .index)) _ _ _ top e2)
 

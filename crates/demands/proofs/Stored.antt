@@ -18,7 +18,8 @@ use Rattle.basics.proofs.Options.{then-inv, pick-else}
 use Rattle.segment.specs.Constants.{entryBytes, typeBit}
 use Rattle.segment.specs.Boxes.{field, entryOf, entriesOf}
 use Rattle.segment.specs.Boxes as tree
-use Rattle.basics.specs.Put.{putAll}
+use Rattle.segment.proofs.Said.{field-some}
+use Rattle.state.specs.Flow.{putAll}
 use Rattle.state.specs.Levels.{Entry, wordAt, entryAt}
 
 -- Two work areas of one length that are the same below a place.
@@ -28,9 +29,6 @@ pub record Alike (a : ℕ) (v w : List ℕ) : Type 0 where
 
 pub alike-trans : {a : ℕ} {u v w : List ℕ} → Alike a u v → Alike a v w → Alike a u w
 alike-trans p q = record { long = p .long ∙ q .long; same = λ i h. p .same i h ∙ q .same i h }
-
-pub alike-sym : {a : ℕ} {u v : List ℕ} → Alike a u v → Alike a v u
-alike-sym p = record { long = sym (p .long); same = λ i h. sym (p .same i h) }
 
 pub alike-refl : (a : ℕ) (w : List ℕ) → Alike a w w
 alike-refl a w = record { long = refl; same = λ i h. refl }
@@ -101,11 +99,6 @@ pub holds-alike : (es : List tree.Entry) {a : ℕ} {v w : List ℕ} (i : ℕ) �
 holds-alike [] i l h k = tt
 holds-alike (e ∷ es) i l h k = (sym (entry-alike i l (omega arith)) ∙ k .0, holds-alike es (i + entryBytes) l (omega arith) (k .1))
 
--- A number of the tree, where there are enough bytes.
-pub field-some : (m : ℕ) (xs : List ℕ) → m ≤ length xs → field m xs ≡ some (record { value = number (take m xs); rest = drop m xs })
-unfolding field
-field-some m xs h = pick-no (ltb (length xs) m) none _ (le-ltb (length xs) m h)
-
 -- An entry of the tree, where there are enough bytes.
 abbrev pub entryHere : List ℕ → tree.Entry
 entryHere xs = record { kind = wordAt xs 0 / typeBit; size = wordAt xs 0 % typeBit; duration = wordAt xs 4; sap = wordAt xs 8 }
@@ -166,38 +159,3 @@ pub holds : (work : List ℕ) (base c : ℕ) (bytes : List ℕ) (es : List tree.
 holds work base c bytes es room long e =
     let q : length (take base work) ≡ base = length-take-le base work (omega arith) in
     rw (put-between work base bytes room) (rw q at (entries-between c (take base work) bytes (drop (base + length bytes) work) es long e))
-
--- There are as many entries as were counted.
-pub entries-count : (c : ℕ) (xs : List ℕ) (es : List tree.Entry) → entriesOf c xs ≡ some es → length es ≡ c
-unfolding entriesOf
-entries-count zero xs es e = let q : [] ≡ es = cc in rw (← q)
-entries-count (suc c) xs es e =
-    let (a, p, r) = then-inv (entryOf xs) _ es e in
-    let (more, ps, rs) = then-inv (entriesOf c (drop entryBytes xs)) _ es r in
-    let q : a ∷ more ≡ es = cc in
-    rw (← q) (ap suc (entries-count c (drop entryBytes xs) more ps))
-
--- No size of an entry is 0.
-abbrev pub Sized : List tree.Entry → Type 0
-Sized [] = Unit {0}
-Sized (e ∷ es) = (0 < e .size) × Sized es
-
-entry-sized : (xs : List ℕ) (e : tree.Entry) → entryOf xs ≡ some e → 0 < e .size
-unfolding entryOf
-entry-sized xs e o =
-    let (first, p1, r1) = then-inv (field 4 xs) _ e o in
-    let (duration, p2, r2) = then-inv (field 4 (first .rest)) _ e r1 in
-    let (sap, p3, r3) = then-inv (field 4 (duration .rest)) _ e r2 in
-    let (test, r4) = pick-else (eqb (first .value % typeBit) 0) _ e r3 in
-    let q : first .value % typeBit ≡ e .size = cc in
-    let z : first .value % typeBit ≢ 0 = λ y. eqb-false (first .value % typeBit) 0 test y in
-    omega arith
-
-pub entries-sized : (c : ℕ) (xs : List ℕ) (es : List tree.Entry) → entriesOf c xs ≡ some es → Sized es
-unfolding entriesOf
-entries-sized zero xs es e = let q : [] ≡ es = cc in rw (← q) tt
-entries-sized (suc c) xs es e =
-    let (a, p, r) = then-inv (entryOf xs) _ es e in
-    let (more, ps, rs) = then-inv (entriesOf c (drop entryBytes xs)) _ es r in
-    let q : a ∷ more ≡ es = cc in
-    rw (← q) (entry-sized xs a p, entries-sized c (drop entryBytes xs) more ps)

@@ -22,7 +22,7 @@ use Rattle.state.specs.Flow.{Flow, Left, left}
 use Rattle.state.specs.Opening.{Opened, passed, unlisted}
 use Rattle.descent.specs.Opening.{brandsD, stypD}
 use Rattle.demands.specs.Told.{upon, clean}
-use Rattle.demands.proofs.Stored.{field-some}
+use Rattle.segment.proofs.Said.{field-some}
 use Rattle.demands.proofs.Upons.{upon-unless, clean-shows, upon-field, upon-few}
 
 -- a number that the bytes do not have

@@ -17,7 +17,8 @@ use Rattle.segment.specs.Boxes as tree
 use Rattle.segment.specs.Boxes.{sizes, durations}
 use Rattle.segment.specs.Leaves.{leafTimes}
 use Rattle.segment.specs.Tree as tree'
-use Rattle.segment.specs.Tree.{Item, itemOf, firstTime, entryItems, tile}
+use Rattle.segment.specs.Tree.{Part, leafPart, leafOf, firstTime, entryParts, tile}
+use Rattle.segment.proofs.NonEmpty.{Sized}
 use Rattle.machine.specs.Faults.{shows, unless}
 use Rattle.machine.specs.Run.{after}
 use Rattle.state.specs.declared.Seen.{Seen}
@@ -30,11 +31,11 @@ use Rattle.state.specs.Levels.{Entry, entryAt, altered, slotOf, took}
 use Rattle.state.specs.Stages.{innerLevel, leafRecord}
 use Rattle.descent.specs.Leaf.{leafD}
 use Rattle.descent.specs.Whole.{Under, innerD, slotD, readBackD, entryD, entriesD}
-use Rattle.demands.specs.Told.{climb}
-use Rattle.covering.specs.Records.{recordOf}
-use Rattle.demands.specs.Verdict.{Verdict, judge, told, seen0, enlist, Meets}
-use Rattle.demands.proofs.Verdicts.{meets-equal, meets-trans, judge-after, judge-not, judge-upon, told-then, told-cong, told-meets, enlist-meets, enlist-now, enlist-both}
-use Rattle.demands.proofs.Stored.{Alike, alike-trans, alike-refl, entryFrom, Holds, holds-alike, Sized}
+use Rattle.demands.specs.Told.{upon, climb}
+use Rattle.lookup.specs.Rows.{rowOf}
+use Rattle.demands.specs.Verdict.{Verdict, wrong, full, fine, judge, told, seen0, enlist, NotFine, Meets}
+use Rattle.demands.proofs.Verdicts.{meets-same, meets-equal, meets-trans, judge-after, judge-cong, judge-not, judge-upon, told-then, told-cong, told-meets, enlist-meets, enlist-now, enlist-both}
+use Rattle.demands.proofs.Stored.{Alike, alike-trans, alike-refl, entryFrom, Holds, holds-alike}
 use Rattle.demands.proofs.LeafTree.{leaf-tree, leaf-first, leaf-full, leaf-ends, leaf-numbers}
 
 -- The same but for the work area.
@@ -99,15 +100,15 @@ module _ (X : Type 0) (top : Top) (depth : ℕ) where
     leaf-out s f' m cs = h tt (listed f' (leafRecord slot (f' .now) (s .first)) (slot .until) (s .last)) m cs
 
     abbrev leaf-told : List ℕ → Verdict X
-    leaf-told ts = enlist (itemOf n (f .now) e ts ∷ []) g (λ g'. K (withNow g' (f .now + e .duration)))
+    leaf-told ts = enlist (leafPart (leafOf n (f .now) e ts) ts ∷ []) g (λ g'. K (withNow g' (f .now + e .duration)))
 
     listed-like : (ts : List ℕ) (s : Seen) → s .first ≡ firstTime ts →
-        Meets (leaf-out s f (slot .end) ys) (K (withNow (listed g (recordOf (itemOf n (f .now) e ts .leaf)) (f .now + e .duration) (s .last)) (f .now + e .duration)))
+        Meets (leaf-out s f (slot .end) ys) (K (withNow (listed g (rowOf (leafOf n (f .now) e ts)) (f .now + e .duration) (s .last)) (f .now + e .duration)))
     unfolding listed
     listed-like ts s q =
         let e1 : n + e .size - n ≡ e .size = omega arith in
         let e2 : f .now + e .duration - f .now ≡ e .duration = omega arith in
-        follows (listed f (leafRecord slot (f .now) (s .first)) (slot .until) (s .last)) (withNow (listed g (recordOf (itemOf n (f .now) e ts .leaf)) (f .now + e .duration) (s .last)) (f .now + e .duration)) refl (alike-refl _ _)
+        follows (listed f (leafRow slot (f .now) (s .first)) (slot .until) (s .last)) (withNow (listed g (rowOf (leafOf n (f .now) e ts)) (f .now + e .duration) (s .last)) (f .now + e .duration)) refl (alike-refl _ _)
         (record { leaves = ap (λ (k : ℕ). suc k) (lk .leaves); now = refl; last = refl; table = rw (e1, e2, q, lk .table, lk .leaves) })
 
     same-room : (t : Bool) → noRoom (f .leaves) (f .table) ≡ t → noRoom (g .leaves) (g .table) ≡ t
@@ -158,14 +159,14 @@ module _ (X : Type 0) (top : Top) (depth : ℕ) where
       slot-meets : (e : tree.Entry) (f g : Flow) (n : ℕ) (xs ys : List ℕ) (h : Goes X) (K : Flow → Verdict X) → e .size ≡ length xs → 0 < length xs → workBytes ≤ length (f .work) →
           Like f g → Follows (levelBytes * depth) (f .work) (f .now + e .duration) h (n + e .size) ys K →
           Meets (judge (slotD inner top depth (not (eqb (e .kind) 0)) (slotOf (entryFrom e) (f .now) n) f n (xs ++ ys)) h)
-          (told (entryItems (top .id) underT n (f .now) e xs) (λ is. enlist is g (λ g'. K (withNow g' (f .now + e .duration)))))
-      unfolding slotD entryItems pick told judge
+          (told (entryParts (top .id) underT n (f .now) e xs) (λ is. enlist is g (λ g'. K (withNow g' (f .now + e .duration)))))
+      unfolding slotD entryParts pick told judge
       slot-meets e f g n xs ys h K sz some-bytes long lk fo = at (eqb (e .kind) 0)
         where
           at : (t : Bool) → Meets (judge (slotD inner top depth (not t) (slotOf (entryFrom e) (f .now) n) f n (xs ++ ys)) h)
-              (told (pick t (andThen (leafTimes (top .id) xs) (λ times. some (itemOf n (f .now) e times ∷ []))) (underT n (f .now) (e .duration) xs)) (λ is. enlist is g (λ g'. K (withNow g' (f .now + e .duration)))))
+              (told (pick t (andThen (leafTimes (top .id) xs) (λ times. some (leafPart (leafOf n (f .now) e times) times ∷ []))) (underT n (f .now) (e .duration) xs)) (λ is. enlist is g (λ g'. K (withNow g' (f .now + e .duration)))))
           at true =
-              rw (judge-after (leafD (top .id) (slotOf (entryFrom e) (f .now) n) f n (xs ++ ys)) _ h, told-then (leafTimes (top .id) xs) (λ times. some (itemOf n (f .now) e times ∷ [])) (λ is. enlist is g (λ g'. K (withNow g' (f .now + e .duration)))))
+              rw (judge-after (leafD (top .id) (slotOf (entryFrom e) (f .now) n) f n (xs ++ ys)) _ h, told-then (leafTimes (top .id) xs) (λ times. some (leafPart (leafOf n (f .now) e times) times ∷ [])) (λ is. enlist is g (λ g'. K (withNow g' (f .now + e .duration)))))
               (leaf-meets e f g n xs ys h K sz some-bytes lk fo)
           at false = deeper e f g n xs ys h K sz some-bytes long lk fo
 
@@ -175,7 +176,7 @@ module _ (X : Type 0) (top : Top) (depth : ℕ) where
 
       entry-meets : (l : Level) (e : tree.Entry) (es : List tree.Entry) (f g : Flow) (n : ℕ) (xs ys : List ℕ) (h : Goes X) (K : Flow → Verdict X) → Stands l (e ∷ es) n (f .now) → entryAt (f .work) (place l) ≡ entryFrom e →
           e .size ≡ length xs → workBytes ≤ length (f .work) → Like f g → Follows (levelBytes * depth) (f .work) (f .now + e .duration) h (n + e .size) ys K →
-          Meets (judge (entryD inner top depth l f n (xs ++ ys)) h) (told (entryItems (top .id) underT n (f .now) e xs) (λ is. enlist is g (λ g'. K (withNow g' (f .now + e .duration)))))
+          Meets (judge (entryD inner top depth l f n (xs ++ ys)) h) (told (entryParts (top .id) underT n (f .now) e xs) (λ is. enlist is g (λ g'. K (withNow g' (f .now + e .duration)))))
       unfolding entryD readBackD unless shows
       entry-meets l e es f g n [] ys h K st he sz long lk fo = absurd (omega (arith, st .sized .0))
       entry-meets l e es f g n (x ∷ xs) ys h K st he sz long lk fo =
@@ -195,7 +196,7 @@ module _ (X : Type 0) (top : Top) (depth : ℕ) where
           let lb : length B ≡ e .size = length-take-le (e .size) xs (omega arith) in
           let lr : length R ≡ length xs - e .size = length-drop (e .size) xs in
           let T : ℕ = f .now + (e .duration + durations es) in
-          let rest : Option (List Item) = tile (top .id) underT (n + e .size) (f .now + e .duration) es R in
+          let rest : Option (List Part) = tile (top .id) underT (n + e .size) (f .now + e .duration) es R in
           let h' : Goes X = λ u f' m cs. judge (entriesD inner top depth (length es) (took l) f' m cs) h in
           let K' : Flow → Verdict X = λ g'. told rest (λ js. enlist js g' (λ g''. K (withNow g'' T))) in
           let cutAt : xs ++ ys ≡ B ++ (R ++ ys) = ap (λ (z : List ℕ). z ++ ys) (sym (take-append-drop (e .size) xs)) ∙ append-assoc B R ys in
@@ -209,10 +210,10 @@ module _ (X : Type 0) (top : Top) (depth : ℕ) where
           tile-meets es (took l) f1 g1 (n + e .size) R ys h K one (rw t1 (stands-next l e es n (f .now) st)) (holds-alike es (place (took l)) al room (rw next at (ho .1))) (omega arith) (omega (arith, al .long)) lk1
           (λ f2 g2 t2 al2 lk2. rw m (fo f2 g2 (omega arith) (alike-trans al al2) lk2)) in
           subst (λ (t : ℕ). Meets (judge (entriesD inner top depth (length es) (took l) f1 (n + e .size) (R ++ ys)) h) (told (tile (top .id) underT (n + e .size) t es R) (λ is. enlist is g1 (λ g'. K (withNow g' T))))) t1 (rw q at go-on) in
-          let items : Option (List Item) = entryItems (top .id) underT n (f .now) e B in
+          let items : Option (List Part) = entryParts (top .id) underT n (f .now) e B in
           let read : Verdict X = judge (entryD inner top depth l f n (B ++ (R ++ ys))) h' in
-          let near : List Item → Verdict X = λ is. enlist is g (λ g'. K' (withNow g' (f .now + e .duration))) in
-          let apart : List Item → Verdict X = λ is. enlist is g (λ g'. told rest (λ js. enlist js g' (λ g''. K (withNow g'' T)))) in
+          let near : List Part → Verdict X = λ is. enlist is g (λ g'. K' (withNow g' (f .now + e .duration))) in
+          let apart : List Part → Verdict X = λ is. enlist is g (λ g'. told rest (λ js. enlist js g' (λ g''. K (withNow g'' T)))) in
           let both : Verdict X = told (andThen items (λ is. andThen rest (λ js. some (is ++ js)))) (λ ks. enlist ks g (λ g'. K (withNow g' T))) in
           let one-entry : Meets read (told items near) = entry-meets l e es f g n B (R ++ ys) h' K' st (ho .0) (sym lb) long lk follows in
           let same-time : Meets (told items near) (told items apart) =

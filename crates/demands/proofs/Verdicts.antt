@@ -9,7 +9,7 @@ use lib.Dec.{eqb}
 use borrow.Author.Tests.{ne-eqb}
 use Rattle.basics.specs.Choose.{pick, andThen}
 use Rattle.basics.proofs.Picks.{pick-no}
-use Rattle.segment.specs.Tree.{Item}
+use Rattle.segment.specs.Tree.{Part, leafPart, indexPart}
 use Rattle.machine.specs.Run.{Res, okay, fail, cut, either, after}
 use Rattle.machine.specs.declared.Refusal.{Refusal}
 use Rattle.state.specs.Flow.{Flow, Left, withNow, listed}
@@ -96,35 +96,38 @@ told-not none g e = tt
 told-not (some a) g e = e a refl
 
 -- Leaves listed.
-pub enlist-append : {X : Type 0} (is js : List Item) (f : Flow) (k : Flow → Verdict X) → enlist (is ++ js) f k ≡ enlist is f (λ g. enlist js g k)
+pub enlist-append : {X : Type 0} (ps qs : List Part) (f : Flow) (k : Flow → Verdict X) → enlist (ps ++ qs) f k ≡ enlist ps f (λ g. enlist qs g k)
 unfolding enlist
-enlist-append [] js f k = refl
-enlist-append (i ∷ is) js f k =
-    ap (pick (noRoom (f .leaves) (f .table)) (full (i .leaf .position)))
-    (told-cong (climb (seen0 (f .last)) (i .times)) _ _ (λ s e. enlist-append is js (listed f (recordOf (i .leaf)) (i .leaf .start + i .leaf .duration) (s .last)) k))
+enlist-append [] qs f k = refl
+enlist-append (leafPart l ts ∷ ps) qs f k =
+    ap (pick (noRoom (f .leaves) (f .table)) (full (l .position))) (told-cong (climb (seen0 (f .last)) ts) _ _ (λ s e. enlist-append ps qs (listed f (rowOf l) (l .start + l .duration) (s .last)) k))
+enlist-append (indexPart p s ∷ ps) qs f k = enlist-append ps qs f k
 
-pub enlist-meets : {X : Type 0} (is : List Item) (f : Flow) (k k' : Flow → Verdict X) → ((g : Flow) → g .work ≡ f .work → Meets (k g) (k' g)) → Meets (enlist is f k) (enlist is f k')
+pub enlist-meets : {X : Type 0} (ps : List Part) (f : Flow) (k k' : Flow → Verdict X) → ((g : Flow) → g .work ≡ f .work → Meets (k g) (k' g)) → Meets (enlist ps f k) (enlist ps f k')
 unfolding enlist listed
 enlist-meets [] f k k' h = h f refl
-enlist-meets (i ∷ is) f k k' h =
-    pick-meets (noRoom (f .leaves) (f .table)) (full (i .leaf .position)) _ _
-    (told-meets (climb (seen0 (f .last)) (i .times)) _ _ (λ s e. enlist-meets is (listed f (recordOf (i .leaf)) (i .leaf .start + i .leaf .duration) (s .last)) k k' h))
+enlist-meets (leafPart l ts ∷ ps) f k k' h =
+    pick-meets (noRoom (f .leaves) (f .table)) (full (l .position)) _ _
+    (told-meets (climb (seen0 (f .last)) ts) _ _ (λ s e. enlist-meets ps (listed f (rowOf l) (l .start + l .duration) (s .last)) k k' h))
+enlist-meets (indexPart p s ∷ ps) f k k' h = enlist-meets ps f k k' h
 
-pub enlist-not : {X : Type 0} (is : List Item) (f : Flow) (k : Flow → Verdict X) → ((g : Flow) → NotFine (k g)) → NotFine (enlist is f k)
+pub enlist-not : {X : Type 0} (ps : List Part) (f : Flow) (k : Flow → Verdict X) → ((g : Flow) → NotFine (k g)) → NotFine (enlist ps f k)
 unfolding enlist
 enlist-not [] f k h = h f
-enlist-not (i ∷ is) f k h =
-    pick-not (noRoom (f .leaves) (f .table)) (full (i .leaf .position)) _ tt
-    (told-not (climb (seen0 (f .last)) (i .times)) _ (λ s e. enlist-not is (listed f (recordOf (i .leaf)) (i .leaf .start + i .leaf .duration) (s .last)) k h))
+enlist-not (leafPart l ts ∷ ps) f k h =
+    pick-not (noRoom (f .leaves) (f .table)) (full (l .position)) _ tt
+    (told-not (climb (seen0 (f .last)) ts) _ (λ s e. enlist-not ps (listed f (rowOf l) (l .start + l .duration) (s .last)) k h))
+enlist-not (indexPart p s ∷ ps) f k h = enlist-not ps f k h
 
 -- the time at which the list begins is not looked at
-pub enlist-now : {X : Type 0} (is : List Item) (f : Flow) (s t : ℕ) (k : Flow → Verdict X) → enlist is (withNow f s) (λ g. k (withNow g t)) ≡ enlist is f (λ g. k (withNow g t))
+pub enlist-now : {X : Type 0} (ps : List Part) (f : Flow) (s t : ℕ) (k : Flow → Verdict X) → enlist ps (withNow f s) (λ g. k (withNow g t)) ≡ enlist ps f (λ g. k (withNow g t))
 unfolding enlist listed
 enlist-now [] f s t k = refl
-enlist-now (i ∷ is) f s t k = refl
+enlist-now (leafPart l ts ∷ ps) f s t k = refl
+enlist-now (indexPart p z ∷ ps) f s t k = enlist-now ps f s t k
 
 -- leaves of a first part and of a second, told apart or together
-pub enlist-both : {X : Type 0} (o q : Option (List Item)) (f : Flow) (k : Flow → Verdict X) →
+pub enlist-both : {X : Type 0} (o q : Option (List Part)) (f : Flow) (k : Flow → Verdict X) →
     Meets (told o (λ is. enlist is f (λ g. told q (λ js. enlist js g k)))) (told (andThen o (λ is. andThen q (λ js. some (is ++ js)))) (λ ks. enlist ks f k))
 unfolding told andThen
 enlist-both none q f k = tt

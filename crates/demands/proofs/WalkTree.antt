@@ -13,9 +13,9 @@ use Rattle.basics.specs.Bytes.{number}
 use Rattle.basics.proofs.Picks.{pick-yes, pick-no, pick-if, pick-both}
 use Rattle.basics.proofs.Options.{absurd-some, then-cong, then-none, then-assoc, then-some, then-pick, then-inv, pick-else, pick-then}
 use Rattle.segment.specs.Constants.{styp, sidx, moof, mdat, traf, tfhd, tfdt, tfad}
-use Rattle.segment.specs.Boxes.{provided, Field, field, Box, boxOf, firstBox, cut, among, only, without, timeBytes, tfhdTrack, tfdtTime}
+use Rattle.segment.specs.Boxes.{topKinds, provided, Field, field, Box, boxOf, firstBox, cut, among, only, without, timeBytes, tfhdTrack, tfdtTime}
 use Rattle.segment.specs.Leaves.{moofFirst, headAndTime, trafTimes, gather, moofTimes, nonEmpty, neverFall}
-use Rattle.segment.specs.Tree.{topKinds, firstTime}
+use Rattle.segment.specs.Tree.{firstTime}
 use Rattle.machine.specs.Faults.{shows}
 use Rattle.machine.specs.declared.Header.{Header}
 use Rattle.state.specs.declared.Seen.{Seen}

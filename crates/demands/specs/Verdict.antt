@@ -6,7 +6,7 @@ use mathlib.Core.List.{List, [], _∷_}
 use mathlib.Core.Option.{Option, some, none}
 use lib.Dec.{eqb}
 use Rattle.basics.specs.Choose.{pick}
-use Rattle.segment.specs.Tree.{Leaf, Item}
+use Rattle.segment.specs.Tree.{Leaf, Part, leafPart, indexPart}
 use Rattle.machine.specs.Run.{Res, okay, fail, cut}
 use Rattle.state.specs.declared.FinishAnswer.{FinishAnswer}
 use Rattle.state.specs.declared.FinishAnswer.the-variants as finishes
@@ -39,12 +39,13 @@ told (some a) k = k a
 abbrev pub seen0 : ℕ → Seen
 seen0 last = leafSo0 last .seen
 
--- the tree's leaves listed one after the other: each needs room, and decode times that do not fall
-unfoldable pub enlist : {X : Type 0} → List Item → Flow → (Flow → Verdict X) → Verdict X
+-- the tree's leaves listed one after the other: each needs room, and decode times that do not fall; an inner index lists nothing
+unfoldable pub enlist : {X : Type 0} → List Part → Flow → (Flow → Verdict X) → Verdict X
 enlist [] f k = k f
-enlist (i ∷ is) f k =
-    pick (noRoom (f .leaves) (f .table)) (full (i .leaf .position))
-    (told (climb (seen0 (f .last)) (i .times)) (λ s. enlist is (listed f (recordOf (i .leaf)) (i .leaf .start + i .leaf .duration) (s .last)) k))
+enlist (leafPart l times ∷ ps) f k =
+    pick (noRoom (f .leaves) (f .table)) (full (l .position))
+    (told (climb (seen0 (f .last)) times) (λ s. enlist ps (listed f (rowOf l) (l .start + l .duration) (s .last)) k))
+enlist (indexPart position size ∷ ps) f k = enlist ps f k
 
 -- A reading meets what the tree says: the same, but where the tree says wrong it may be full as well.
 abbrev pub NotFine : {X : Type 0} → Verdict X → Type 0

@@ -5,24 +5,20 @@ use mathlib.Core.List.{List}
 use mathlib.Core.Option.{some}
 use Rattle.segment.specs.Tree.{Leaf, segment}
 use Rattle.segment.specs.Parts.{Belongs}
-use Rattle.segment.proofs.Stands.{top-stands, index-end, material-stands, segment-made}
+use Rattle.segment.proofs.Stands.{top-stands, index-end, parts-made, parts-listed}
 use Rattle.segment.proofs.Ticks.{each-tick, no-tick-outside}
-use Rattle.segment.proofs.Bytes.{parts-listed, each-byte, no-byte-outside}
-use Rattle.segment.proofs.Contents.{part-bytes}
+use Rattle.segment.proofs.Bytes.{each-byte, no-byte-outside, part-bytes}
 
 pub belongs : (brand : ℕ) (xs : List ℕ) (ls : List Leaf) → segment brand xs ≡ some ls → Belongs brand xs ls
 belongs brand xs ls accepted =
-    let m = segment-made brand xs ls accepted in
-    let top = m .top in
-    let opened = m .opened in
-    let (ps, parted, leaves) = parts-listed brand xs ls accepted in
+    let (top, ps, opened, parted, leaves) = parts-listed brand xs ls accepted in
     let stands = top-stands brand xs top opened in
     record {
       top = top;
       opened = opened;
       stands = stands;
       start = ap (λ (n : ℕ). n + top .index .offset) (index-end xs top stands);
-      end = material-stands brand xs (m .bytes) top opened (m .lies) .2;
+      end = parts-made brand xs top ps opened parted .ends;
       parts = ps;
       parted = parted;
       leaves = leaves;

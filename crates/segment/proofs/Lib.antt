@@ -1,10 +1,12 @@
-pub mod Edges
+pub mod Said
 pub mod Rules
-pub mod Samples
-pub mod Spans
-pub mod Ticks
 pub mod Stands
+pub mod Spans
+pub mod Tiles
+pub mod Edges
+pub mod Times
+pub mod Ticks
 pub mod Bytes
 pub mod NonEmpty
-pub mod Contents
 pub mod Belongs
+pub mod Samples

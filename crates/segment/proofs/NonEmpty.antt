@@ -1,31 +1,61 @@
--- An accepted segment has a leaf: every index has an entry, and every entry has a leaf in it.
-use Prim.Native.Nat.{ℕ, zero, suc, _+_, _-_, _*_, _<_}
-use mathlib.Core.Path.{_≡_, sym, ap, _∙_, subst}
-use mathlib.Core.List.{List, [], _∷_}
-use mathlib.Core.Option.{some, Option·some-injective, Option·none-ne-some}
-use mathlib.Core.Bool.{Bool, true, false}
+-- An accepted segment has a leaf: every index has an entry, every entry has a byte, and bytes that entries fill have a leaf in them.
+use Prim.Native.Nat.{ℕ, zero, suc, _+_, _*_, _%_, _<_, _≤_}
+use mathlib.Core.Path.{_≡_, refl, sym, ap, _∙_, subst}
+use mathlib.Core.List.{List, [], _∷_, _++_}
+use mathlib.Core.Logic.{_≢_, _⊎_, inl, inr}
+use mathlib.Core.Option.{some, Option·some-injective}
 use native.Mathlib.Omega.{arith}
 use lib.Dec.{eqb, ltb}
-use lib.ListN.{length, take, drop, length-append, length-map}
+use lib.ListN.{length, drop, length-append}
 use borrow.Author.Tests.{eqb-false}
-use Rattle.basics.specs.Choose.{pick, andThen}
+use Rattle.basics.specs.Choose.{andThen}
+use Rattle.basics.proofs.Picks.{lt-or-ge}
 use Rattle.basics.proofs.Options.{then-inv, pick-some, pick-else}
-use Rattle.segment.specs.Constants.{entryBytes, mostEntries, levels}
-use Rattle.segment.specs.Boxes.{provided, unless, Entry, entryOf, entriesOf, Index, sidxIndex}
-use Rattle.segment.specs.Leaves.{leafTimes}
-use Rattle.segment.specs.Tree.{Leaf, Item, itemOf, Under, entryItems, tile, innerIndex, underIndex, leafOf, segment}
-use Rattle.segment.proofs.Stands.{top-stands, inner-rest, segment-made}
+use Rattle.segment.specs.Constants.{entryBytes, typeBit, mostEntries}
+use Rattle.segment.specs.Boxes.{provided, unless, field, Entry, entryOf, entriesOf, sizes, Index, sidxIndex}
+use Rattle.segment.specs.Tree.{Leaf, leavesIn, segment}
+use Rattle.segment.proofs.Stands.{top-stands, parts-made, parts-listed}
+use Rattle.segment.proofs.Tiles.{Fact, Grows, made-by}
+use Rattle.segment.proofs.Ticks.{leaves-in-both}
 
-entries-many : (n : ℕ) (xs : List ℕ) (es : List Entry) → entriesOf n xs ≡ some es → length es ≡ n
+-- There are as many entries as were counted.
+pub entries-count : (c : ℕ) (xs : List ℕ) (es : List Entry) → entriesOf c xs ≡ some es → length es ≡ c
 unfolding entriesOf
-entries-many zero xs es h = ap length (sym (Option·some-injective _ _ h))
-entries-many (suc n) xs es h =
+entries-count zero xs es h = ap length (sym (Option·some-injective _ _ h))
+entries-count (suc c) xs es h =
     let (e, p, q) = then-inv (entryOf xs) _ es h in
-    let (more, p', q') = then-inv (entriesOf n (drop entryBytes xs)) _ es q in
-    ap length (sym (Option·some-injective _ _ q')) ∙ ap suc (entries-many n (drop entryBytes xs) more p')
+    let (more, p', q') = then-inv (entriesOf c (drop entryBytes xs)) _ es q in
+    ap length (sym (Option·some-injective _ _ q')) ∙ ap suc (entries-count c (drop entryBytes xs) more p')
 
-positive : (n m k : ℕ) → (n ≡ 0 → ⊥) → m ≡ n → m ≡ k → 0 < k
-positive n m k h p q = omega arith
+-- No size of an entry is 0.
+abbrev pub Sized : List Entry → Type 0
+Sized [] = Unit {0}
+Sized (e ∷ es) = (0 < e .size) × Sized es
+
+entry-sized : (xs : List ℕ) (e : Entry) → entryOf xs ≡ some e → 0 < e .size
+unfolding entryOf
+entry-sized xs e o =
+    let (first, p1, r1) = then-inv (field 4 xs) _ e o in
+    let (duration, p2, r2) = then-inv (field 4 (first .rest)) _ e r1 in
+    let (sap, p3, r3) = then-inv (field 4 (duration .rest)) _ e r2 in
+    let (test, r4) = pick-else (eqb (first .value % typeBit) 0) _ e r3 in
+    let q : first .value % typeBit ≡ e .size = cc in
+    let z : first .value % typeBit ≢ 0 = λ y. eqb-false (first .value % typeBit) 0 test y in
+    omega arith
+
+pub entries-sized : (c : ℕ) (xs : List ℕ) (es : List Entry) → entriesOf c xs ≡ some es → Sized es
+unfolding entriesOf
+entries-sized zero xs es e = let q : [] ≡ es = cc in rw (← q) tt
+entries-sized (suc c) xs es e =
+    let (a, p, r) = then-inv (entryOf xs) _ es e in
+    let (more, ps, rs) = then-inv (entriesOf c (drop entryBytes xs)) _ es r in
+    let q : a ∷ more ≡ es = cc in
+    rw (← q) (entry-sized xs a p, entries-sized c (drop entryBytes xs) more ps)
+
+sized-some : (es : List Entry) → length es ≢ 0 → Sized es → 0 < sizes es
+unfolding sizes
+sized-some [] any sized = absurd (any refl)
+sized-some (e ∷ es) any sized = let first = sized .0 in omega arith
 
 -- the count is not 0, and there are so many entries
 counted-entries : (id scale time offset count : ℕ) (rest : List ℕ) (i : Index) →
@@ -34,18 +64,19 @@ counted-entries : (id scale time offset count : ℕ) (rest : List ℕ) (i : Inde
     (unless (ltb mostEntries count)
     (provided (eqb (length rest) (entryBytes * count))
     (andThen (entriesOf count rest) (λ entries. some (record { id = id; scale = scale; time = time; offset = offset; entries = entries })))))) ≡ some i →
-    0 < length (i .entries)
+    0 < sizes (i .entries)
 counted-entries id scale time offset count rest i e =
     let (scaled, g1) = pick-else _ _ i e in
     let (counted, g2) = pick-else _ _ i g1 in
     let (most, g3) = pick-else _ _ i g2 in
     let (long, g4) = pick-some _ _ i g3 in
-    let (entries, e1, f1) = then-inv _ _ i g4 in
-    positive count (length entries) (length (i .entries)) (eqb-false count 0 counted) (entries-many count rest entries e1)
-    (ap (λ (j : Index). length (j .entries)) (Option·some-injective _ _ f1))
+    let (entries, read, g5) = then-inv _ _ i g4 in
+    let same : entries ≡ i .entries = ap (λ (j : Index). j .entries) (Option·some-injective _ _ g5) in
+    subst (λ (es : List Entry). 0 < sizes es) same
+    (sized-some entries (λ z. eqb-false count 0 counted (sym (entries-count count rest entries read) ∙ z)) (entries-sized count rest entries read))
 
--- an index has an entry
-pub index-entries : (body : List ℕ) (i : Index) → sidxIndex body ≡ some i → 0 < length (i .entries)
+-- an index has an entry, and its entries cover a byte
+pub index-entries : (body : List ℕ) (i : Index) → sidxIndex body ≡ some i → 0 < sizes (i .entries)
 unfolding sidxIndex
 index-entries body i e =
     let (version, e1, f1) = then-inv _ _ i e in
@@ -59,41 +90,29 @@ index-entries body i e =
     let (count, e9, f9) = then-inv _ _ i f8 in
     counted-entries (id .value) (scale .value) (time .value) (offset .value) (count .value) (count .rest) i f9
 
-module _ (track : ℕ) (under : Under) (has : (p s d : ℕ) (ys : List ℕ) (is : List Item) → under p s d ys ≡ some is → 0 < length is) where
-  entry-some : (position start : ℕ) (e : Entry) (xs : List ℕ) (is : List Item) → entryItems track under position start e xs ≡ some is → 0 < length is
-  unfolding entryItems pick
-  entry-some position start e xs is h = at (eqb (e .kind) 0) h
-    where
-      at : (t : Bool) → pick t (andThen (leafTimes track xs) (λ times. some (itemOf position start e times ∷ []))) (under position start (e .duration) xs) ≡ some is → 0 < length is
-      at true g =
-          let (times, p, q) = then-inv (leafTimes track xs) (λ times. some (itemOf position start e times ∷ [])) is g in
-          subst (λ (js : List Item). 0 < length js) (Option·some-injective _ _ q) (omega arith)
-      at false g = has position start (e .duration) xs is g
+-- where there are bytes there is a leaf
+abbrev HasLeaf : Fact
+HasLeaf p s d xs ps = 0 < length xs → 0 < length (leavesIn ps)
 
-  tile-some : (position start : ℕ) (es : List Entry) (xs : List ℕ) (is : List Item) → 0 < length es → tile track under position start es xs ≡ some is → 0 < length is
-  unfolding tile
-  tile-some position start [] xs is one h = absurd (omega arith)
-  tile-some position start (e ∷ es) xs is one h =
-      let (items, p, q) = then-inv (entryItems track under position start e (take (e .size) xs)) _ is h in
-      let (more, p', q') = then-inv (tile track under (position + e .size) (start + e .duration) es (drop (e .size) xs)) _ is q in
-      let first = entry-some position start e (take (e .size) xs) items p in
-      subst (λ (js : List Item). 0 < length js) (Option·some-injective _ _ q') (rw length-append (omega arith))
-
-under-some : (id scale left p s d : ℕ) (ys : List ℕ) (is : List Item) → underIndex id scale left p s d ys ≡ some is → 0 < length is
-unfolding underIndex
-under-some id scale zero p s d ys is h = absurd (Option·none-ne-some is h)
-under-some id scale (suc left) p s d ys is h =
-    let (inner, e, q) = then-inv (innerIndex id scale s d ys) _ is h in
-    let (b, e1, e2, says, e3, e4) = inner-rest id scale s d ys inner e in
-    tile-some id (underIndex id scale left) (under-some id scale left) (p + inner .size) s (inner .index .entries) (inner .rest) is (index-entries (b .body) (inner .index) says) q
+has-leaf : (id scale : ℕ) → Grows id scale HasLeaf
+unfolding leavesIn
+has-leaf id scale =
+    record {
+      nothing = λ p s any. any;
+      leaf = λ p s e xs ts long read any. omega arith;
+      inner = λ p s d xs o ps i long h any. let covered = index-entries (o .box .body) (o .index) (i .says) in h (omega arith);
+      both = λ p s d d' xs ys ps qs h g any. rw (leaves-in-both, length-append) (either (lt-or-ge 0 (length xs)) (length-append xs ys) any h g);
+    }
+  where
+    either : {m n a b c : ℕ} → (0 < m) ⊎ (m ≤ 0) → c ≡ m + n → 0 < c → (0 < m → 0 < a) → (0 < n → 0 < b) → 0 < a + b
+    either (inl some-bytes) sum any h g = let first = h some-bytes in omega arith
+    either (inr no-bytes) sum any h g = let second = g (omega arith) in omega arith
 
 -- An accepted segment has a leaf.
 pub leaves-some : (brand : ℕ) (xs : List ℕ) (ls : List Leaf) → segment brand xs ≡ some ls → 0 < length ls
 leaves-some brand xs ls e =
-    let m = segment-made brand xs ls e in
-    let top = m .top in
-    let stands = top-stands brand xs top (m .opened) in
-    subst (λ (ms : List Leaf). 0 < length ms) (m .leaves)
-    (rw (length-map (m .items) leafOf)
-    (tile-some (top .index .id) (underIndex (top .index .id) (top .index .scale) (levels - 1)) (under-some (top .index .id) (top .index .scale) (levels - 1))
-    (length xs - length (m .bytes)) (top .index .time) (top .index .entries) (m .bytes) (m .items) (index-entries (stands .box .body) (top .index) (stands .says)) (m .tiled)))
+    let (top, ps, opened, parted, leaves) = parts-listed brand xs ls e in
+    let m = parts-made brand xs top ps opened parted in
+    let long = m .long in
+    let covered = index-entries (top .box .body) (top .index) (top-stands brand xs top opened .says) in
+    rw leaves at (made-by xs top ps m HasLeaf (has-leaf (top .index .id) (top .index .scale)) (omega arith))

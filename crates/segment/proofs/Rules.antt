@@ -1,7 +1,7 @@
 -- Rules 1, 5 and 6 as facts of the tree, whatever the bytes: what stands where in what is accepted, said by places.
 use Prim.Native.Nat.{ℕ, zero, suc, _+_, _-_, _*_, _/_, _%_, _≤_, _<_}
 use mathlib.Core.Path.{_≡_, refl, sym, ap, _∙_, subst}
-use mathlib.Core.List.{List, [], _∷_, _++_, map}
+use mathlib.Core.List.{List, [], _∷_, _++_}
 use mathlib.Core.Option.{Option, some, Option·some-injective, Option·none-ne-some}
 use mathlib.Core.Bool.{Bool, true, false, true≢false}
 use mathlib.Core.Logic.{_≢_}
@@ -14,11 +14,12 @@ use Rattle.basics.specs.Choose.{pick, andThen}
 use Rattle.basics.specs.Bytes.{number}
 use Rattle.basics.proofs.Picks.{pick-yes, pick-no}
 use Rattle.basics.proofs.Options.{then-inv, pick-some, pick-else}
-use Rattle.segment.specs.Constants.{levels, styp, sidx, moof, mdat, tfhd, tfdt, tfad}
-use Rattle.segment.specs.Boxes.{unless, among, Field, field, words, Box, firstBox, boxes, only, without, stypBrands, Entry, sidxIndex, tfhdTrack, tfdtTime}
+use Rattle.segment.specs.Constants.{styp, sidx, moof, mdat, tfhd, tfdt, tfad}
+use Rattle.segment.specs.Boxes.{unless, among, Field, field, words, Box, firstBox, boxes, topKinds, only, without, stypBrands, sidxIndex, tfhdTrack, tfdtTime}
 use Rattle.segment.specs.Leaves.{moofFirst, leafBoxes, headAndTime, trafTimes, moofTimes, gather, nonEmpty, leafTimes, neverFall}
-use Rattle.segment.specs.Tree.{topKinds, Opened, openIndex, firstIndex, topIndex, gapBoxes, material, Leaf, Item, firstTime, itemOf, Under, entryItems, tile, innerIndex, underIndex, allTimes, leafOf, segment}
-use Rattle.segment.specs.Parts.{At, One}
+use Rattle.segment.specs.Tree.{Opened, openIndex, firstIndex, topIndex, gapBoxes, material, firstTime}
+use Rattle.segment.specs.Parts.{At, One, Stands}
+use Rattle.segment.proofs.Said.{field-says, first-box, opened-box, material-place}
 
 -- Tests that are choices.
 neither : (t c : Bool) → pick t true c ≡ false → (t ≡ false) × (c ≡ false)
@@ -26,7 +27,7 @@ unfolding pick
 neither true c e = absurd (true≢false e)
 neither false c e = (refl, e)
 
-but-not : (t c : Bool) → pick t false c ≡ true → (t ≡ false) × (c ≡ true)
+pub but-not : (t c : Bool) → pick t false c ≡ true → (t ≡ false) × (c ≡ true)
 unfolding pick
 but-not true c e = absurd (true≢false (sym e))
 but-not false c e = (refl, e)
@@ -306,7 +307,7 @@ fall-floor last (u ∷ ts) e (suc j) t there =
     let up = fall-floor u ts more j t there in
     omega arith
 
-never-falls : (last : ℕ) (ts : List ℕ) → neverFall last ts ≡ true → NoFall ts
+pub never-falls : (last : ℕ) (ts : List ℕ) → neverFall last ts ≡ true → NoFall ts
 unfolding neverFall
 never-falls last [] e i j s t order there there' = absurd (Option·none-ne-some s there)
 never-falls last (u ∷ ts) e zero zero s t order there there' =
@@ -342,130 +343,7 @@ leaf-timed track xs ts e =
     at [] e' = absurd (Option·none-ne-some ts e')
     at (u ∷ us) e' = subst (λ (vs : List ℕ). (t : ℕ) × At vs 0 t × (firstTime vs ≡ t)) (Option·some-injective _ _ e') (u, refl, refl)
 
--- Rule 6, through the segment: no leaf has a lower first decode time than one before it, and no decode time is lower than one before it.
-Timed : Item → Type 0
-Timed item = (t : ℕ) × At (item .times) 0 t × (item .leaf .time ≡ t)
-
-abbrev AllTimed : List Item → Type 0
-AllTimed [] = Unit {0}
-AllTimed (x ∷ is) = Timed x × AllTimed is
-
-timed-both : (is js : List Item) → AllTimed is → AllTimed js → AllTimed (is ++ js)
-timed-both [] js h g = g
-timed-both (x ∷ is) js h g = (h .0, timed-both is js (h .1) g)
-
-module _ (track : ℕ) (under : Under) (timed : (p s d : ℕ) (ys : List ℕ) (is : List Item) → under p s d ys ≡ some is → AllTimed is) where
-  entry-timed : (position start : ℕ) (e : Entry) (xs : List ℕ) (is : List Item) → entryItems track under position start e xs ≡ some is → AllTimed is
-  unfolding entryItems pick Timed
-  entry-timed position start e xs is h = at (eqb (e .kind) 0) h
-    where
-      at : (t : Bool) → pick t (andThen (leafTimes track xs) (λ times. some (itemOf position start e times ∷ []))) (under position start (e .duration) xs) ≡ some is → AllTimed is
-      at true g =
-          let (times, p, q) = then-inv (leafTimes track xs) (λ times. some (itemOf position start e times ∷ [])) is g in
-          subst AllTimed (Option·some-injective _ _ q) (leaf-timed track xs times p, tt)
-      at false g = timed position start (e .duration) xs is g
-
-  tile-timed : (position start : ℕ) (es : List Entry) (xs : List ℕ) (is : List Item) → tile track under position start es xs ≡ some is → AllTimed is
-  unfolding tile
-  tile-timed position start [] xs is h = subst AllTimed (Option·some-injective _ _ h) tt
-  tile-timed position start (e ∷ es) xs is h =
-      let (items, p, q) = then-inv (entryItems track under position start e (take (e .size) xs)) _ is h in
-      let (more, p', q') = then-inv (tile track under (position + e .size) (start + e .duration) es (drop (e .size) xs)) _ is q in
-      subst AllTimed (Option·some-injective _ _ q')
-      (timed-both items more (entry-timed position start e (take (e .size) xs) items p) (tile-timed (position + e .size) (start + e .duration) es (drop (e .size) xs) more p'))
-
-under-timed : (id scale left p s d : ℕ) (ys : List ℕ) (is : List Item) → underIndex id scale left p s d ys ≡ some is → AllTimed is
-unfolding underIndex
-under-timed id scale zero p s d ys is h = absurd (Option·none-ne-some is h)
-under-timed id scale (suc left) p s d ys is h =
-    let (inner, e, q) = then-inv (innerIndex id scale s d ys) _ is h in
-    tile-timed id (underIndex id scale left) (under-timed id scale left) (p + inner .size) s (inner .index .entries) (inner .rest) is q
-
--- times of a leaf, and those that follow it
-fall-after : (last : ℕ) (ts us : List ℕ) → neverFall last (ts ++ us) ≡ true → (m : ℕ) × (last ≤ m) × (neverFall m us ≡ true)
-unfolding neverFall
-fall-after last [] us e = (last, omega arith, e)
-fall-after last (t ∷ ts) us e =
-    let (high, more) = but-not (ltb t last) (neverFall t (ts ++ us)) e in
-    let low = ltb-false t last high in
-    let (m, up, rest) = fall-after t ts us more in
-    (m, omega arith, rest)
-
-fall-first : (last : ℕ) (ts us : List ℕ) (t : ℕ) → neverFall last (ts ++ us) ≡ true → At ts 0 t → (last ≤ t) × ((m : ℕ) × (t ≤ m) × (neverFall m us ≡ true))
-unfolding neverFall
-fall-first last [] us t e there = absurd (Option·none-ne-some t there)
-fall-first last (u ∷ ts) us t e there =
-    let (high, more) = but-not (ltb u last) (neverFall u (ts ++ us)) e in
-    let low = ltb-false u last high in
-    let same : u ≡ t = Option·some-injective _ _ there in
-    let (m, up, rest) = fall-after u ts us more in
-    (omega arith, (m, omega arith, rest))
-
-leaves-floor : (last : ℕ) (is : List Item) → neverFall last (allTimes is) ≡ true → AllTimed is → (j : ℕ) (l : Leaf) → At (map leafOf is) j l → last ≤ l .time
-unfolding allTimes Timed
-leaves-floor last [] e timed j l there = absurd (Option·none-ne-some l there)
-leaves-floor last (x ∷ is) e timed zero l there =
-    let (t, first, same) = timed .0 in
-    let (low, more) = fall-first last (x .times) (allTimes is) t e first in
-    let same' : x .leaf .time ≡ l .time = ap (λ (k : Leaf). k .time) (Option·some-injective _ _ there) in
-    omega arith
-leaves-floor last (x ∷ is) e timed (suc j) l there =
-    let (m, low, rest) = fall-after last (x .times) (allTimes is) e in
-    let up = leaves-floor m is rest (timed .1) j l there in
-    omega arith
-
-leaves-order : (last : ℕ) (is : List Item) → neverFall last (allTimes is) ≡ true → AllTimed is →
-    (i j : ℕ) (l k : Leaf) → i ≤ j → At (map leafOf is) i l → At (map leafOf is) j k → l .time ≤ k .time
-unfolding allTimes Timed
-leaves-order last [] e timed i j l k order there there' = absurd (Option·none-ne-some l there)
-leaves-order last (x ∷ is) e timed zero zero l k order there there' =
-    let same : l .time ≡ k .time = ap (λ (o : Leaf). o .time) (sym (Option·some-injective _ _ there) ∙ Option·some-injective _ _ there') in
-    omega arith
-leaves-order last (x ∷ is) e timed zero (suc j) l k order there there' =
-    let (t, first, same) = timed .0 in
-    let (low, (m, up, rest)) = fall-first last (x .times) (allTimes is) t e first in
-    let same' : x .leaf .time ≡ l .time = ap (λ (o : Leaf). o .time) (Option·some-injective _ _ there) in
-    let far = leaves-floor m is rest (timed .1) j k there' in
-    omega arith
-leaves-order last (x ∷ is) e timed (suc i) zero l k order there there' = absurd (omega arith)
-leaves-order last (x ∷ is) e timed (suc i) (suc j) l k order there there' =
-    let (m, low, rest) = fall-after last (x .times) (allTimes is) e in
-    leaves-order m is rest (timed .1) i j l k (omega arith) there there'
-
--- what the tree makes of the entries of the top index
-abbrev pub itemsOf : List ℕ → Opened → List ℕ → Option (List Item)
-itemsOf xs top ys =
-    tile (top .index .id) (underIndex (top .index .id) (top .index .scale) (levels - 1)) (length xs - length ys) (top .index .time) (top .index .entries) ys
-
-pub segment-times : (brand : ℕ) (xs : List ℕ) (ls : List Leaf) → segment brand xs ≡ some ls →
-    (top : Opened) × (ys : List ℕ) × (items : List Item) × (topIndex brand xs ≡ some top) × (material top ≡ some ys) × (itemsOf xs top ys ≡ some items)
-    × (map leafOf items ≡ ls) × NoFall (allTimes items)
-unfolding segment
-segment-times brand xs ls e =
-    let (short, e1) = pick-else _ _ ls e in
-    let (top, opened, e2) = then-inv _ _ ls e1 in
-    let (below, e3) = pick-some _ _ ls e2 in
-    let (ys, lies, e4) = then-inv _ _ ls e3 in
-    let (items, tiled, e5) = then-inv _ _ ls e4 in
-    let (never, e6) = pick-some _ _ ls e5 in
-    (top, ys, items, opened, lies, tiled, Option·some-injective _ _ e6, never-falls 0 (allTimes items) never)
-
-pub leaves-rise : (brand : ℕ) (xs : List ℕ) (ls : List Leaf) → segment brand xs ≡ some ls → (i j : ℕ) (l k : Leaf) → i ≤ j → At ls i l → At ls j k → l .time ≤ k .time
-leaves-rise brand xs ls e =
-    let (top, ys, items, opened, lies, tiled, same, rise) = segment-times brand xs ls e in
-    let timed = tile-timed (top .index .id) (underIndex (top .index .id) (top .index .scale) (levels - 1)) (under-timed (top .index .id) (top .index .scale) (levels - 1))
-    (length xs - length ys) (top .index .time) (top .index .entries) ys items tiled in
-    subst (λ (ms : List Leaf). (i j : ℕ) (l k : Leaf) → i ≤ j → At ms i l → At ms j k → l .time ≤ k .time) same
-    (leaves-order 0 items (falls-never 0 (allTimes items) (λ j t there. omega arith) rise) timed)
-
 -- Rule 1. What a `styp` says: after the first 8 bytes of its body each 4 are a compatible brand, to its end.
-field-says : (width : ℕ) (xs : List ℕ) (f : Field) → field width xs ≡ some f → (f .value ≡ number (take width xs)) × (f .rest ≡ drop width xs) × (width ≤ length xs)
-unfolding field
-field-says width xs f e =
-    let (enough, said) = pick-else _ _ f e in
-    let same = Option·some-injective _ _ said in
-    (ap (λ (g : Field). g .value) (sym same), ap (λ (g : Field). g .rest) (sym same), ltb-false (length xs) width enough)
-
 word-next : (xs : List ℕ) (f : Field) (more : List ℕ) → f .value ≡ number (take 4 xs) → f .rest ≡ drop 4 xs →
     ((i w : ℕ) → At more i w → number (take 4 (drop (4 * i) (f .rest))) ≡ w) → (i w : ℕ) → At (f .value ∷ more) i w → number (take 4 (drop (4 * i) xs)) ≡ w
 word-next xs f more value rest h zero w there = sym value ∙ Option·some-injective _ _ there
@@ -517,29 +395,34 @@ Skipped b = (b .kind ≢ styp) × (b .kind ≢ sidx) × (b .kind ≢ moof) × (b
 none-skipped : (b : Box) → NoneOf topKinds b → Skipped b
 none-skipped b others = (others 0 styp refl, others 1 sidx refl, others 2 moof refl, others 3 mdat refl)
 
+-- what stands in bytes stands in those that begin sooner
+pub stands-later : (n : ℕ) (xs : List ℕ) (o : Opened) → n ≤ length xs → Stands (drop n xs) o → Stands xs o
+stands-later n xs o fits s =
+    let ends = s .ends in
+    let left = length-drop n xs in
+    let far : n + (s .start + o .box .size) ≡ n + s .start + o .box .size = omega arith in
+    record { start = n + s .start; there = rw drop-drop at (s .there); kind = s .kind; says = s .says; rest = rw (drop-drop, far) at (s .rest); ends = omega arith }
+
 -- Rule 1, up to the top index: skipped boxes, and then the first `sidx`.
 pub record Indexed (xs : List ℕ) (top : Opened) : Type 0 where
   pub skipped : List Box
-  pub index : Box
-  pub lie : Laid xs (skipped ++ index ∷ []) (top .rest)
+  pub lie : Laid xs (skipped ++ top .box ∷ []) (top .rest)
   pub others : (i : ℕ) (b : Box) → At skipped i b → Skipped b
-  pub kind : index .kind ≡ sidx
-  pub tells : sidxIndex (index .body) ≡ some (top .index)
-  pub size : index .size ≡ top .size
+  pub stands : Stands xs top
 
 here : (xs : List ℕ) (b : Box) (top : Opened) → firstBox xs ≡ some b → b .kind ≡ sidx → openIndex b xs ≡ some top → Indexed xs top
-unfolding openIndex
 here xs b top first is e =
-    let (x, said, e1) = then-inv (sidxIndex (b .body)) _ top e in
-    let same = Option·some-injective _ _ e1 in
+    let (same, says, rest) = opened-box b xs top e in
+    let there : firstBox xs ≡ some (top .box) = first ∙ ap some same in
+    let fits = first-box xs (top .box) there .fits in
+    let left = length-drop (top .box .size) xs in
+    let long = ap length rest in
+    let first-byte : 0 + top .box .size ≡ top .box .size = omega arith in
     record {
       skipped = [];
-      index = b;
-      lie = (first, ap (λ (o : Opened). o .rest) same);
+      lie = (there, rest);
       others = λ i c there. absurd (Option·none-ne-some c there);
-      kind = is;
-      tells = said ∙ ap (λ (o : Opened). some (o .index)) same;
-      size = ap (λ (o : Opened). o .size) same;
+      stands = record { start = 0; there = there; kind = rw same at is; says = says; rest = rw first-byte rest; ends = omega arith };
     }
 
 skipped-on : (bs : List Box) (b : Box) → Skipped b → ((i : ℕ) (c : Box) → At bs i c → Skipped c) → (i : ℕ) (c : Box) → At (b ∷ bs) i c → Skipped c
@@ -550,12 +433,9 @@ on : (xs : List ℕ) (b : Box) (top : Opened) → firstBox xs ≡ some b → Ski
 on xs b top first is more =
     record {
       skipped = b ∷ more .skipped;
-      index = more .index;
       lie = (first, more .lie);
       others = skipped-on (more .skipped) b is (more .others);
-      kind = more .kind;
-      tells = more .tells;
-      size = more .size;
+      stands = stands-later (b .size) xs top (first-box xs b first .fits) (more .stands);
     }
 
 first-index : (k : ℕ) (xs : List ℕ) (top : Opened) → firstIndex k xs ≡ some top → Indexed xs top
@@ -620,10 +500,9 @@ brand-compatible brand xs top e =
 -- Rule 1. In the gap of first-offset bytes after the top index stand whole boxes, and each is skipped.
 pub gap-skipped : (top : Opened) (ys : List ℕ) → material top ≡ some ys →
     (gap : List Box) × (boxes (take (top .index .offset) (top .rest)) ≡ some gap) × ((i : ℕ) (b : Box) → At gap i b → Skipped b)
-unfolding material gapBoxes
+unfolding gapBoxes
 gap-skipped top ys e =
-    let (fits, e1) = pick-some _ _ ys e in
-    let (gap, e2, e3) = then-inv (gapBoxes (take (top .index .offset) (top .rest))) _ ys e1 in
-    let (bs, whole, e4) = then-inv (boxes (take (top .index .offset) (top .rest))) _ gap e2 in
-    let (clean, e5) = pick-some _ _ gap e4 in
+    let (fits, rest, (gap, e1)) = material-place top ys e in
+    let (bs, whole, e2) = then-inv (boxes (take (top .index .offset) (top .rest))) _ gap e1 in
+    let (clean, e3) = pick-some _ _ gap e2 in
     (bs, whole, λ i b there. none-skipped b (without-at topKinds bs clean i b there))

@@ -57,3 +57,17 @@ module _ {A : Type 0} (at len : A → ℕ) where
 pub one-alike : {A : Type 0} (P Q : A → Type 0) (xs : List A) → ((a : A) → P a → Q a) → ((a : A) → Q a → P a) → One P xs → One Q xs
 one-alike P Q xs to fro o =
     record { place = o .place; item = o .item; there = o .there; has = to (o .item) (o .has); only = λ i a h q. o .only i a h (fro a q) }
+
+-- All of a list have a property: of two lists one after the other, and of the one at a place.
+abbrev pub All : {A : Type 0} → (A → Type 0) → List A → Type 0
+All K [] = Unit {0}
+All K (a ∷ xs) = K a × All K xs
+
+pub all-both : {A : Type 0} (K : A → Type 0) (xs ys : List A) → All K xs → All K ys → All K (xs ++ ys)
+all-both K [] ys h g = g
+all-both K (a ∷ xs) ys h g = (h .0, all-both K xs ys (h .1) g)
+
+pub all-at : {A : Type 0} (K : A → Type 0) (xs : List A) → All K xs → (i : ℕ) (a : A) → At xs i a → K a
+all-at K [] h i a e = absurd (Option·none-ne-some a e)
+all-at K (b ∷ xs) h zero a e = subst K (Option·some-injective _ _ e) (h .0)
+all-at K (b ∷ xs) h (suc i) a e = all-at K xs (h .1) i a e

@@ -1,4 +1,4 @@
--- Boxes, and what the bodies of `styp`, `sidx`, `tfhd` and `tfdt` say.
+-- Boxes, and what the bodies of `styp`, `sidx`, `tfhd` and `tfdt` say, in the order of document 01's section on boxes.
 use Prim.Native.Nat.{ℕ, zero, suc, _+_, _-_, _*_, _/_, _%_}
 use mathlib.Core.List.{List, [], _∷_, _++_}
 use mathlib.Core.Option.{Option, some, none}
@@ -7,7 +7,7 @@ use lib.Dec.{eqb, ltb}
 use lib.ListN.{length, take, drop}
 use Rattle.basics.specs.Choose.{pick, andThen}
 use Rattle.basics.specs.Bytes.{number}
-use Rattle.segment.specs.Constants.{entryBytes, typeBit, mostEntries}
+use Rattle.segment.specs.Constants.{entryBytes, typeBit, mostEntries, styp, sidx, moof, mdat}
 
 -- an answer where a test holds, and one where it does not
 abbrev pub provided : {A : Type 0} → Bool → Option A → Option A
@@ -28,11 +28,6 @@ pub record Field : Type 0 where
 
 unfoldable pub field : ℕ → List ℕ → Option Field
 field width xs = unless (ltb (length xs) width) (some (record { value = number (take width xs); rest = drop width xs }))
-
--- so many numbers of 32 bits
-unfoldable pub words : ℕ → List ℕ → Option (List ℕ)
-words zero xs = some []
-words (suc n) xs = andThen (field 4 xs) (λ word. andThen (words n (word .rest)) (λ more. some (word .value ∷ more)))
 
 -- A box: its type, its size with the header, and its body.
 pub record Box : Type 0 where
@@ -66,6 +61,10 @@ cut (suc k) (x ∷ xs) = andThen (firstBox (x ∷ xs)) (λ b. andThen (cut k (dr
 abbrev pub boxes : List ℕ → Option (List Box)
 boxes xs = cut (length xs) xs
 
+-- `styp`, `sidx`, `moof`, `mdat` are known at the top level: boxes of other types are skipped there.
+abbrev pub topKinds : List ℕ
+topKinds = styp ∷ sidx ∷ moof ∷ mdat ∷ []
+
 -- the boxes of these types alone, for where the others are skipped
 unfoldable pub only : List ℕ → List Box → List Box
 only kinds [] = []
@@ -75,6 +74,11 @@ only kinds (b ∷ bs) = pick (among (b .kind) kinds) (b ∷ []) [] ++ only kinds
 unfoldable pub without : List ℕ → List Box → Bool
 without kinds [] = true
 without kinds (b ∷ bs) = pick (among (b .kind) kinds) false (without kinds bs)
+
+-- so many numbers of 32 bits
+unfoldable pub words : ℕ → List ℕ → Option (List ℕ)
+words zero xs = some []
+words (suc n) xs = andThen (field 4 xs) (λ word. andThen (words n (word .rest)) (λ more. some (word .value ∷ more)))
 
 -- `styp`: major brand, minor version, compatible brands to its end. It says the compatible ones.
 unfoldable pub stypBrands : List ℕ → Option (List ℕ)
