@@ -15,19 +15,17 @@ use Rattle.segment.specs.Boxes.{boxes, cut, topKinds, without}
 use Rattle.segment.specs.Tree.{gapBoxes}
 use Rattle.machine.specs.Run.{Res, okay, fail, skipD}
 use Rattle.machine.specs.Heads.{boxEnd}
-use Rattle.machine.specs.Lists.{boxD, again, over}
+use Rattle.machine.specs.Lists.{Next, boxD, again, over}
 use Rattle.machine.specs.declared.Header.{Header}
 use Rattle.state.specs.Flow.{Flow, Left, left}
-use Rattle.machine.specs.declared.Refusal.{Refusal}
-use Rattle.machine.proofs.Readings.{Says, says-okay, says-fail, says-after, says-skip, says-box, SaysNext, says-boxes}
-use Rattle.machine.proofs.Kept.{Each, each-none, each-shows, each-append}
-use Rattle.state.specs.Rows.{topLengths, gapFaults}
+use Rattle.machine.proofs.Readings.{Says, says-okay, SaysNext, says-boxes}
 use Rattle.state.specs.Stages.{gapNext, gapKind}
 use Rattle.state.specs.Stages as stages
 use Rattle.descent.specs.Opening.{skipTo}
 use Rattle.descent.specs.Whole.{gapD}
 use Rattle.demands.specs.Told.{upon, clean}
 use Rattle.demands.specs.Walks.{gapWalk}
+use Rattle.demands.proofs.Upons.{Any, Anyhow, each-any, says-any}
 use Rattle.demands.proofs.WalkTree.{gap-walk}
 use Rattle.demands.proofs.OpeningTree.{skip-body}
 use Rattle.demands.proofs.ListTree.{list-tree}
@@ -63,48 +61,25 @@ gap-tree offset f n [] ys k e =
     rw (z, q)
 gap-tree offset f n (x ∷ xs) ys k e = gap-some offset f n (x ∷ xs) ys k (omega arith) e
 
--- a refusal that is not of row 15
-abbrev Roomy : Refusal → Left → ℕ → Type 0
-Roomy x l m = x .number ≢ 15
-
--- no header in the gap shows a fault of row 15
-gap-shown : (h : Header) → Each (λ x. x .number ≢ 15) (gapFaults h)
-unfolding gapFaults topLengths
-gap-shown h =
-    let G : Refusal → Type 0 = λ x. x .number ≢ 15 in
-    each-append G _ _ (each-append G _ _ (each-shows G _ 6 (h .pos) (omega arith)) (each-shows G _ 6 (h .pos) (omega arith)))
-    (each-append G _ _ (each-shows G _ 7 (h .pos) (omega arith)) (each-shows G _ 9 (h .pos) (omega arith)))
-
--- What the gap's reading gives: it ends where the gap does, with what flows as it was; and no refusal in it is of row 15.
+-- A gap that is accepted ends where it should.
 module _ (offset : ℕ) (f : Flow) (n : ℕ) where
   abbrev Ended : Unit {0} → Flow → ℕ → List ℕ → Type 0
-  Ended u g m cs = (m ≡ n + offset) × (g ≡ f)
+  Ended u g m cs = m ≡ n + offset
 
-  -- a box of the gap leaves what flows
-  gap-box : (u : Unit {0}) (g : Flow) (m : ℕ) (cs : List ℕ) → g ≡ f →
-      Says (λ r g' m' cs'. g' ≡ f) Roomy (boxD (gapKind (n + offset)) (λ h g' m' cs'. skipTo tt (boxEnd h) g' m' cs') g m cs)
-  gap-box u g m cs q =
-      says-box (λ r g' m' cs'. g' ≡ f) Roomy (gapKind (n + offset)) (λ h g' m' cs'. skipTo tt (boxEnd h) g' m' cs') g m cs (λ m'. omega arith) (λ m'. omega arith) (λ h m' p. gap-shown h)
-      (λ h m' cs' p e s t. says-after (λ r g' m'' cs''. g' ≡ f) Roomy (λ v g' m'' cs''. g' ≡ f) (skipD left (boxEnd h - m') g m' cs') _ (says-skip _ Roomy left (boxEnd h - m') g m' cs' (λ ds r. q)) (λ v g' m'' ds r. r))
+  abbrev Closes : Next (Unit {0}) (Unit {0}) → Flow → ℕ → List ℕ → Type 0
+  Closes x g m cs = SaysNext Ended Anyhow (stages.gapBoxes (n + offset)) (λ u h g m cs. skipTo tt (boxEnd h) g m cs) Any x g m cs
 
-  gap-close : (g : Flow) (m : ℕ) (cs : List ℕ) → g ≡ f → SaysNext Ended Roomy (stages.gapBoxes (n + offset)) (λ u h g m cs. skipTo tt (boxEnd h) g m cs) (λ u g m cs. g ≡ f) (gapNext (n + offset) m) g m cs
+  gap-close : (g : Flow) (m : ℕ) (cs : List ℕ) → Closes (gapNext (n + offset) m) g m cs
   unfolding gapNext
-  gap-close g m cs q =
-      let G : Refusal → Type 0 = λ x. x .number ≢ 15 in
-      pick-holds (λ x. SaysNext Ended Roomy (stages.gapBoxes (n + offset)) (λ u h g m cs. skipTo tt (boxEnd h) g m cs) (λ u g m cs. g ≡ f) x g m cs) (eqb m (n + offset)) _ _
-      (λ p. (each-none G, λ e. (eqb-true m (n + offset) p, q))) (λ p. (each-none G, λ e. q))
+  gap-close g m cs = pick-holds (λ x. Closes x g m cs) (eqb m (n + offset)) _ _ (λ p. (each-any [], λ e. eqb-true m (n + offset) p)) (λ p. (each-any [], λ e. tt))
 
-  gap-says : (bs : List ℕ) → Says Ended Roomy (gapD offset f n bs)
+  gap-says : (bs : List ℕ) → Says Ended Anyhow (gapD offset f n bs)
   unfolding gapD
   gap-says bs =
-      pick-holds (Says Ended Roomy) (eqb offset 0) _ _ (λ e. let z : offset ≡ 0 = eqb-true offset 0 e in (omega arith, refl))
-      (λ e. says-boxes Ended Roomy (stages.gapBoxes (n + offset)) (λ u h g m cs. skipTo tt (boxEnd h) g m cs) (λ u g m cs. g ≡ f) (λ u r g m cs. g ≡ f) gap-box
-      (λ u r g m cs q. gap-close g m cs q) (λ u x kept m w. each-none (λ y. y .number ≢ 15)) (length bs) tt f n bs refl)
+      pick-holds (Says Ended Anyhow) (eqb offset 0) _ _ (λ e. let z : offset ≡ 0 = eqb-true offset 0 e in omega arith)
+      (λ e. says-boxes Ended Anyhow (stages.gapBoxes (n + offset)) (λ u h g m cs. skipTo tt (boxEnd h) g m cs) Any (λ u. Any)
+      (λ u g m cs i. says-any (boxD (gapKind (n + offset)) (λ h g' m' cs'. skipTo tt (boxEnd h) g' m' cs') g m cs))
+      (λ u r g m cs i. gap-close g m cs) (λ u x kept m w. each-any []) (length bs) tt f n bs tt)
 
-  -- a gap that is accepted ends where it should, and leaves what flows
-  pub gap-ends : (bs : List ℕ) (u : Unit {0}) (g : Flow) (m : ℕ) (cs : List ℕ) → gapD offset f n bs ≡ okay u g m cs → (m ≡ n + offset) × (g ≡ f)
-  gap-ends bs u g m cs e = says-okay Ended Roomy (gapD offset f n bs) u g m cs e (gap-says bs)
-
-  -- a refusal in the gap is not of row 15
-  pub gap-numbers : (bs : List ℕ) (x : Refusal) (l : Left) (m : ℕ) → gapD offset f n bs ≡ fail x l m → x .number ≢ 15
-  gap-numbers bs x l m e = says-fail Ended Roomy (gapD offset f n bs) x l m e (gap-says bs)
+  pub gap-ends : (bs : List ℕ) (u : Unit {0}) (g : Flow) (m : ℕ) (cs : List ℕ) → gapD offset f n bs ≡ okay u g m cs → m ≡ n + offset
+  gap-ends bs u g m cs e = says-okay Ended Anyhow (gapD offset f n bs) u g m cs e (gap-says bs)

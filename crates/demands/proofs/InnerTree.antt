@@ -1,7 +1,6 @@
 -- An index entry, read by structure, comes to what the tree says of it, at every level.
 use Prim.Native.Nat.{ℕ, zero, suc, _+_, _-_, _*_, _%_, _≤_, _<_}
 use mathlib.Core.Path.{_≡_, refl, ap, sym, subst, _∙_}
-use mathlib.Core.Logic.{_≢_}
 use mathlib.Core.List.{List, _∷_, _++_}
 use mathlib.Core.Option.{Option, some, none}
 use mathlib.Core.Bool.{Bool, true, false, not, true≢false, _&&_, _||_}
@@ -17,11 +16,8 @@ use Rattle.segment.specs.Boxes as tree
 use Rattle.segment.specs.Boxes.{Box, firstBox, sidxIndex, sizes, durations}
 use Rattle.segment.specs.Tree.{Opened, openIndex, Part, indexPart, suitsEntry, innerIndex, underIndex, tile}
 use Rattle.segment.proofs.Said.{FirstBox, first-box, Inner, inner-says}
-use Rattle.machine.specs.Run.{Res, okay, fail, cut, after}
-use Rattle.machine.specs.declared.Refusal.{Refusal}
+use Rattle.machine.specs.Run.{Res, after}
 use Rattle.machine.specs.declared.Header.{Header}
-use Rattle.machine.proofs.Kept.{Each, each-shows, each-append}
-use Rattle.machine.proofs.Readings.{Says, says-fail, says-box}
 use Rattle.state.specs.declared.Top.{Top}
 use Rattle.state.specs.declared.Span.{Span}
 use Rattle.state.specs.declared.Level.{Level}
@@ -39,10 +35,10 @@ use Rattle.descent.specs.Whole.{innerD, underD}
 use Rattle.demands.specs.Told.{upon, clean, headLength, headerOf, indexFrom, entryPart, withEntries, suits}
 use Rattle.demands.specs.Verdict.{Verdict, judge, told, enlist, Meets}
 use Rattle.demands.proofs.Upons.{clean-append, clean-shows}
-use Rattle.demands.proofs.Verdicts.{judge-after, judge-not, judge-upon, told-then, told-meets}
+use Rattle.demands.proofs.Verdicts.{judge-after, judge-not, judge-told, told-then}
 use Rattle.demands.proofs.SegmentRun.{too-deep}
 use Rattle.demands.proofs.HeadTree.{box-tree}
-use Rattle.demands.proofs.SidxTree.{suits-under, sidx-fitting, SidxFacts, sidx-facts, sidx-numbers}
+use Rattle.demands.proofs.SidxTree.{suits-under, sidx-fitting, SidxFacts, sidx-facts}
 use Rattle.demands.proofs.Stored.{alike-trans, alike-less, put-length, put-alike, entryFrom, holds}
 use Rattle.demands.proofs.TileTree.{Like, Goes, Follows, Deeper, tile-meets}
 
@@ -121,30 +117,6 @@ module _ {X : Type 0} (top : Top) (slot : Slot) (d : ℕ) (f : Flow) (n dur : �
       ∙ then-cong (firstBox xs) _ _ (λ b e. one-box b (first-box xs b e))
       ∙ sym (then-assoc (firstBox xs) _ opened)
 
--- no header of an index entry's first box shows number 15
-inner-shown : (d : ℕ) (h : Header) → Each (λ y. y .number ≢ 15) (innerFaults d h)
-unfolding innerFaults topLengths
-inner-shown d h =
-    let G : Refusal → Type 0 = λ y. y .number ≢ 15 in
-    each-append G _ _ (each-append G _ _ (each-shows G _ 6 (h .pos) (omega arith)) (each-shows G _ 6 (h .pos) (omega arith)))
-    (each-append G _ _ (each-shows G _ 7 (h .pos) (omega arith)) (each-append G _ _ (each-shows G _ 9 (h .pos) (omega arith)) (each-shows G _ 13 (h .pos) (omega arith))))
-
--- a reading of whose refusals none is number 15
-says-numbers : {R : Type 0} (r : Res R Flow Left) → ((x : Refusal) (l : Left) (m : ℕ) → r ≡ fail x l m → x .number ≢ 15) → Says (λ q f n bs. Unit {0}) (λ x l m. x .number ≢ 15) r
-says-numbers (okay q f n bs) h = tt
-says-numbers (fail x l m) h = h x l m refl
-says-numbers (cut l m) h = tt
-
--- no refusal of an index entry's first box is number 15
-inner-numbers : (top : Top) (slot : Slot) (d : ℕ) (f : Flow) (n : ℕ) (bs : List ℕ) (x : Refusal) (l : Left) (m : ℕ) → innerD top slot d f n bs ≡ fail x l m → x .number ≢ 15
-inner-numbers top slot d f n bs x l m e =
-    let G : Refusal → Type 0 = λ y. y .number ≢ 15 in
-    let W : Refusal → Left → ℕ → Type 0 = λ y l' m'. y .number ≢ 15 in
-    let K : Index → Flow → ℕ → List ℕ → Type 0 = λ y f' m' cs. Unit {0} in
-    says-fail K W (innerD top slot d f n bs) x l m e
-    (says-box K W (innerKind top slot d) (λ h g m' cs. sidxD (under top slot d) (spanOf h) g m' cs) f n bs (λ m'. omega arith) (λ m'. omega arith) (λ h m' p. inner-shown d h)
-    (λ h m' cs p q r s. says-numbers (sidxD (under top slot d) (spanOf h) f m' cs) (λ y l' m'' r'. sidx-numbers (under top slot d) (spanOf h) f m' cs y l' m'' r')))
-
 -- One level: an index entry, given what is known of the level below.
 module _ (X : Type 0) (top : Top) (k depth : ℕ) (one : 1 ≤ depth) (shallow : depth < 4) (deeper : Deeper X top (suc depth) (underD k top) (underIndex (top .id) (top .scale) k)) where
   module _ (e : tree.Entry) (f g : Flow) (n : ℕ) (xs ys : List ℕ) (h : Goes X) (K : Flow → Verdict X) (sz : e .size ≡ length xs) (long : workBytes ≤ length (f .work)) (lk : Like f g)
@@ -190,16 +162,10 @@ module _ (X : Type 0) (top : Top) (k depth : ℕ) (one : 1 ≤ depth) (shallow :
     unfolding underIndex told enlist
     entry-deeper =
         let inner : Option Opened = innerIndex (top .id) (top .scale) (f .now) (e .duration) xs in
-        let read : Opened → Verdict X = λ o. below (indexFrom (o .index)) (withEntries f (under top slot depth) (o .index) (o .box .body)) (n + o .box .size) (o .rest ++ ys) in
-        rw (
-          judge-after (innerD top slot depth f n (xs ++ ys)) (λ x f' m cs. underD (suc k) top (suc depth) (innerLevel x slot) f' m cs) h
-              ∙ judge-upon (innerD top slot depth f n (xs ++ ys)) below (inner-numbers top slot depth f n (xs ++ ys))
-              ∙ ap (λ (z : Option (Verdict X)). told z (λ v. v))
-              (inner-tree top slot depth f n (e .duration) xs ys shallow (ap (λ (z : ℕ). n + z) sz) refl (λ x f' m cs. some (below x f' m cs)))
-              ∙ told-then inner (λ o. some (read o)) (λ v. v),
-          told-then inner (λ o. andThen (tiled o) (λ ps. some (indexPart n (o .box .size) ∷ ps))) said,
-        )
-        (told-meets inner read (λ o. told (andThen (tiled o) (λ ps. some (indexPart n (o .box .size) ∷ ps))) said)
+        let listing : Opened → Option (List Part) = λ o. andThen (tiled o) (λ ps. some (indexPart n (o .box .size) ∷ ps)) in
+        rw (judge-after (innerD top slot depth f n (xs ++ ys)) (λ x f' m cs. underD (suc k) top (suc depth) (innerLevel x slot) f' m cs) h, told-then inner listing said)
+        (judge-told (innerD top slot depth f n (xs ++ ys)) below inner _ (λ o. told (listing o) said)
+        (inner-tree top slot depth f n (e .duration) xs ys shallow (ap (λ (z : ℕ). n + z) sz) refl (λ x f' m cs. some (below x f' m cs)))
         (λ o q. rw (told-then (tiled o) (λ ps. some (indexPart n (o .box .size) ∷ ps)) said) (index-meets o (inner-says (top .id) (top .scale) (f .now) (e .duration) xs o q))))
 
 -- Every level.

@@ -39,15 +39,14 @@ use Rattle.descent.specs.Opening.{openingD}
 use Rattle.descent.specs.Whole.{gapD, underD, materialD, segmentD, outcome, readD, wholeD}
 use Rattle.demands.specs.Told.{indexFrom, entryPart, withEntries}
 use Rattle.demands.specs.Verdict.{Verdict, wrong, full, fine, judge, told, enlist, NotFine, Meets, Listing, seat, verdictBy, verdictOf}
-use Rattle.demands.proofs.Verdicts.{meets-equal, meets-trans, judge-after, judge-cong, judge-not, judge-upon, told-then, told-cong, told-meets, told-not, enlist-not, pick-not}
+use Rattle.demands.proofs.Verdicts.{meets-same, meets-equal, meets-trans, judge-after, judge-cong, judge-not, judge-told, told-then, told-cong, told-meets, told-not, enlist-not, pick-not}
 use Rattle.demands.proofs.SegmentRun.{S, gap-consumed, top-run}
 use Rattle.demands.proofs.Stored.{put-length, holds}
 use Rattle.demands.proofs.SidxTree.{SidxFacts, sidx-facts}
 use Rattle.demands.proofs.TileTree.{Like, Goes, Follows, tile-meets}
 use Rattle.demands.proofs.InnerTree.{at-level}
-use Rattle.demands.proofs.GapTree.{gap-tree, gap-ends, gap-numbers}
+use Rattle.demands.proofs.GapTree.{gap-tree, gap-ends}
 use Rattle.demands.proofs.OpeningTree.{atTop, topEnd, topSpan, opening-tree, top-sums}
-use Rattle.demands.proofs.OpeningNumbers.{opening-numbers}
 use Rattle.demands.proofs.Seats.{listing, enlist-seat, enlist-falls}
 
 pub meets-not : {X : Type 0} (v w : Verdict X) → Meets v w → NotFine w → NotFine v
@@ -195,15 +194,13 @@ module _ (o : Opened) (f0 : Flow) (n : ℕ) (read : tree.sidxIndex (o .box .body
   gap-short : (rest : List ℕ) → length rest < x .offset → NotFine (judge (gapD (x .offset) flow n rest) past)
   gap-short rest short =
       judge-not (gapD (x .offset) flow n rest) past
-      (λ u g m cs e. absurd (omega (arith, gap-ends (x .offset) flow n rest u g m cs e .0, gap-consumed (x .offset) flow n rest u g m cs e)))
+      (λ u g m cs e. absurd (omega (arith, gap-ends (x .offset) flow n rest u g m cs e, gap-consumed (x .offset) flow n rest u g m cs e)))
 
   -- a gap that is all there
-  gap-read : (A B : List ℕ) → length A ≡ x .offset → judge (gapD (x .offset) flow n (A ++ B)) past ≡ told (gapBoxes A) (λ gap. under B ending)
+  gap-meets : (A B : List ℕ) (say : Verdict Listing) → length A ≡ x .offset → Meets (under B ending) say → Meets (judge (gapD (x .offset) flow n (A ++ B)) past) (told (gapBoxes A) (λ gap. say))
   unfolding told
-  gap-read A B la =
-      judge-upon (gapD (x .offset) flow n (A ++ B)) past (gap-numbers (x .offset) flow n (A ++ B))
-      ∙ ap (λ (o : Option (Verdict Listing)). told o (λ v. v)) (gap-tree (x .offset) flow n A B (λ u g m cs. some (past u g m cs)) la)
-      ∙ told-then (gapBoxes A) (λ gap. some (under B ending)) (λ v. v)
+  gap-meets A B say la h =
+      judge-told (gapD (x .offset) flow n (A ++ B)) past (gapBoxes A) _ (λ gap. say) (gap-tree (x .offset) flow n A B (λ u g m cs. some (past u g m cs)) la) (λ gap e. h)
 
   module _ (all : ℕ) (ends : all ≡ n + length (o .rest)) (l0 : f0 .leaves ≡ 0) (t0 : f0 .last ≡ 0) where
     abbrev A : List ℕ
@@ -241,12 +238,13 @@ module _ (o : Opened) (f0 : Flow) (n : ℕ) (read : tree.sidxIndex (o .box .body
         la : x .offset ≤ length (o .rest) → length A ≡ x .offset
         la l = length-take-le (x .offset) (o .rest) l
 
-        read-gap : x .offset ≤ length (o .rest) → judge (gapD (x .offset) flow n (o .rest)) past ≡ told (gapBoxes A) (λ gap. under B ending)
-        read-gap l = ap (λ (bs : List ℕ). judge (gapD (x .offset) flow n bs) past) (sym (take-append-drop (x .offset) (o .rest))) ∙ gap-read A B (la l)
+        read-gap : x .offset ≤ length (o .rest) → (say : Verdict Listing) → Meets (under B ending) say → Meets (judge (gapD (x .offset) flow n (o .rest)) past) (told (gapBoxes A) (λ gap. say))
+        read-gap l say h =
+            subst (λ (bs : List ℕ). Meets (judge (gapD (x .offset) flow n bs) past) (told (gapBoxes A) (λ gap. say))) (take-append-drop (x .offset) (o .rest)) (gap-meets A B say (la l) h)
 
         not-exact : x .offset ≤ length (o .rest) → length (o .rest) ≢ i .offset + sizes (i .entries) → NotFine (under B ending) →
             Meets (judge (gapD (x .offset) flow n (o .rest)) past) (told (andThen (material o) tiled) (seated (f0 .table)))
-        not-exact l ne nf = rw (wrong-length ne, read-gap l) (told-not (gapBoxes A) (λ gap. under B ending) (λ gap e. nf))
+        not-exact l ne nf = rw (wrong-length ne) (meets-not _ (told (gapBoxes A) (λ gap. wrong)) (read-gap l wrong nf) (told-not (gapBoxes A) (λ gap. wrong) (λ gap e. tt)))
 
         more-bytes : x .offset ≤ length (o .rest) → sizes (i .entries) < length B → NotFine (under B ending)
         more-bytes l lt =
@@ -261,8 +259,7 @@ module _ (o : Opened) (f0 : Flow) (n : ℕ) (read : tree.sidxIndex (o .box .body
             (λ (ge : length B ≤ sizes (i .entries)).
             ⊎-elim (λ (lt : length B < sizes (i .entries)). not-exact l (λ q. omega arith) (shorter B lt))
             (λ (le : sizes (i .entries) ≤ length B).
-            rw (right-length (omega arith), read-gap l)
-            (told-meets (gapBoxes A) (λ gap. under B ending) (λ gap. told (parts B) (said (f0 .table))) (λ gap e. exact l0 t0 B (omega arith))))
+            rw (right-length (omega arith)) (read-gap l (told (parts B) (said (f0 .table))) (exact l0 t0 B (omega arith))))
             (lt-or-ge (length B) (sizes (i .entries))))
             (lt-or-ge (sizes (i .entries)) (length B))
 
@@ -285,14 +282,6 @@ module _ (brand : ℕ) (xs work table : List ℕ) (small : length xs ≤ limit) 
 
   abbrev say-top : Opened → Verdict Listing
   say-top o = told (pick (ltb (o .index .time + durations (o .index .entries)) timeLimit) (parts-of o) none) (seated table)
-
-  read-is : judge (segmentD brand f0 0 xs) final ≡ told (topIndex brand xs) read-top
-  unfolding segmentD
-  read-is =
-      judge-after (openingD brand f0 0 xs) (λ x g m cs. materialD x g m cs) final
-      ∙ judge-upon (openingD brand f0 0 xs) after-top (opening-numbers brand f0 0 xs)
-      ∙ ap (λ (z : Option (Verdict Listing)). told z (λ v. v)) (opening-tree brand f0 (λ x g m cs. some (after-top x g m cs)) xs small)
-      ∙ told-then (topIndex brand xs) (atTop f0 (λ x g m cs. some (after-top x g m cs)) (length xs)) (λ v. v)
 
   say-is : told (segment brand xs) (λ ls. seat ls 0 table) ≡ told (topIndex brand xs) say-top
   unfolding segment segmentParts told
@@ -341,7 +330,10 @@ module _ (brand : ℕ) (xs work table : List ℕ) (small : length xs ≤ limit) 
         (sums-meet (ltb limit (index-end + o .index .offset + sizes (o .index .entries))) (leb timeLimit (o .index .time + durations (o .index .entries))) refl refl)
 
   pub read-meets : Meets (judge (segmentD brand f0 0 xs) final) (told (segment brand xs) (λ ls. seat ls 0 table))
-  read-meets = rw (read-is, say-is) (told-meets (topIndex brand xs) read-top say-top top-meets)
+  unfolding segmentD
+  read-meets =
+      rw (judge-after (openingD brand f0 0 xs) (λ x g m cs. materialD x g m cs) final, say-is)
+      (judge-told (openingD brand f0 0 xs) after-top (topIndex brand xs) _ say-top (opening-tree brand f0 (λ x g m cs. some (after-top x g m cs)) xs small) top-meets)
 
 -- a byte after the material is refused with 21, or with 3
 past-end : (n : ℕ) (table : List ℕ) (t : Bool) → verdictBy (finishes.Refused (lowest (pastMaterial n) (shows t 3 limit))) table ≡ wrong

@@ -3,7 +3,7 @@ use Prim.Native.Nat.{ℕ, zero, suc, _+_, _-_, _≤_, _<_}
 use mathlib.Core.Path.{_≡_, refl, ap, sym, _∙_}
 use mathlib.Core.List.{List, [], _∷_, _++_}
 use mathlib.Core.Option.{Option, some, none}
-use mathlib.Core.Bool.{Bool, true, false, not, _&&_, _||_, Bool·not-not}
+use mathlib.Core.Bool.{Bool, true, false, not, true≢false, _&&_, _||_, Bool·not-not}
 use mathlib.Core.Logic.{_≢_}
 use native.Mathlib.Omega.{arith}
 use lib.Dec.{eqb, ltb}
@@ -12,7 +12,7 @@ use lib.Seq.{take-append-le, drop-append-le}
 use borrow.Author.Tests.{not-true, eqb-true, eqb-false, eq-eqb, ne-eqb, ltb-false, lt-ltb, le-ltb}
 use Rattle.basics.specs.Choose.{pick, andThen}
 use Rattle.basics.proofs.Picks.{pick-yes, pick-no, pick-with}
-use Rattle.basics.proofs.Tests.{and-both}
+use Rattle.basics.proofs.Tests.{and-both, and-not}
 use Rattle.basics.proofs.Options.{absurd-some, then-cong, then-none, then-assoc, then-pick, then-inv, pick-some}
 use Rattle.segment.specs.Constants.{styp, sidx, moof, mdat, traf, tfhd, tfdt}
 use Rattle.segment.specs.Boxes.{provided, Field, field, Box, firstBox, cut, boxes, among, without, timeBytes, tfhdTrack, tfdtTime}
@@ -24,6 +24,8 @@ use Rattle.machine.specs.Heads.{boxEnd, headD, sizeFaults}
 use Rattle.machine.specs.Lists.{boxD, boxesD}
 use Rattle.machine.specs.declared.Header.{Header}
 use Rattle.machine.proofs.Fields.{skip-whole}
+use Rattle.machine.proofs.Faults.{none-second, shows-none}
+use Rattle.machine.proofs.Readings.{Says, says-okay, says-either, says-box}
 use Rattle.state.specs.declared.Span.{Span}
 use Rattle.state.specs.declared.Seen.{Seen}
 use Rattle.state.specs.declared.Slot.{Slot}
@@ -38,11 +40,10 @@ use Rattle.descent.specs.Opening.{skipTo}
 use Rattle.descent.specs.Leaf.{tfhdD, widthD, tfdtD, trafBodyD, trafD, moofBodyD, moofD, leafBodyD, leafD}
 use Rattle.demands.specs.Told.{upon, clean, climb, headLength, headerOf}
 use Rattle.demands.specs.Walks.{trafItem, trafWalk, moofItem, moofWalk, leafItem, leafWalk}
-use Rattle.demands.proofs.Upons.{clean-none, upon-after, upon-unless, upon-field, clean-append, clean-shows, upon-some}
+use Rattle.demands.proofs.Upons.{Never, Anyhow, each-any, clean-none, upon-after, upon-unless, upon-field, clean-append, clean-shows, upon-some}
 use Rattle.demands.proofs.HeadTree.{head-tree}
 use Rattle.demands.proofs.ListTree.{list-tree, start-tree}
 use Rattle.demands.proofs.WalkTree.{not-or, field-rest, body-length, traf-faults, cut-fits, traf-walk, moof-walk, leaf-walk, first-seen, lastTime, climb-told}
-pub use Rattle.demands.proofs.LeafFacts.{leaf-ends, leaf-leaves, leaf-numbers}
 
 -- A number of the tree, where there are enough bytes.
 pub field-tree : {R X : Type 0} (k : ℕ → Flow → ℕ → List ℕ → Res R Flow Left) (h : R → Flow → ℕ → List ℕ → Option X) (m : ℕ) (f : Flow) (n : ℕ) (xs ys : List ℕ) → m ≤ length xs →
@@ -392,3 +393,24 @@ leaf-full id slot f n (x ∷ xs) ys ts full p e q =
     at : (b : Box) (m : ℕ) (cs : List ℕ) → headD left (slot .end) f n (x ∷ xs ++ ys) ≡ okay (headerOf n b) f m cs → sizeFaults (slot .end) (headerOf n b) ≡ [] →
         leafFaults (slot .pos) false (headerOf n b) f ≡ refusal 15 (slot .pos) ∷ [] → leafD id slot f n (x ∷ xs ++ ys) ≡ fail (refusal 15 (slot .pos)) (left f) m
     at b m cs r z s = rw (r, z, s) (ap (λ y. fail y (left f) m) (lowest-full slot f (eqb m (slot .end)) full))
+
+-- A leaf beyond the room is not accepted: the header of its first box shows it.
+pub leaf-no-room : (id : ℕ) (slot : Slot) (f : Flow) (n : ℕ) (bs : List ℕ) → slot .pos ≡ n → noRoom (f .leaves) (f .table) ≡ true →
+    (s : Seen) (g : Flow) (m : ℕ) (cs : List ℕ) → leafD id slot f n bs ≡ okay s g m cs → ⊥
+unfolding leafFaults boxesD
+leaf-no-room id slot f n bs p full s g m cs e = says-okay Never Anyhow (leafD id slot f n bs) s g m cs e (says bs)
+  where
+    shown : (h : Header) → h .pos ≡ n → leafFaults (slot .pos) false h f ≡ [] → ⊥
+    shown h q none-shown =
+        let a = none-second (topLengths h) _ none-shown in
+        let b = none-second (shows (is h styp) 7 (h .pos)) _ a in
+        let c = shows-none (eqb (h .pos) (slot .pos) && noRoom (f .leaves) (f .table)) 15 (slot .pos) (none-second (shows (is h sidx || is h mdat && not false) 9 (h .pos)) _ b) in
+        true≢false (sym full ∙ and-not (eqb (h .pos) (slot .pos)) _ (eq-eqb (h .pos) (slot .pos) (q ∙ sym p)) c)
+
+    says : (bs : List ℕ) → Says Never Anyhow (leafD id slot f n bs)
+    says [] = tt
+    says (b ∷ bs) =
+        says-either Never Anyhow Never Anyhow (boxD (state.leafBoxes id slot .box (leafSo0 (f .last))) (leafBodyD id (leafSo0 (f .last) .seen)) f n (b ∷ bs)) _ _
+        (says-box Never Anyhow (state.leafBoxes id slot .box (leafSo0 (f .last))) (leafBodyD id (leafSo0 (f .last) .seen)) f n (b ∷ bs) (λ m. tt) (λ m. tt) (λ h m q. each-any _)
+        (λ h m cs q r z none-shown. absurd (shown h q none-shown)))
+        (λ r g m cs never. absurd never) (λ x kept m w. tt)

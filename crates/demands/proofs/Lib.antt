@@ -7,7 +7,6 @@ pub mod Upons
 pub mod Verdicts
 pub mod WalkTree
 pub mod Stored
-pub mod LeafFacts
 pub mod LeafTree
 pub mod TileTree
 pub mod HeadTree
@@ -17,7 +16,6 @@ pub mod InnerTree
 pub mod StypTree
 pub mod GapTree
 pub mod OpeningTree
-pub mod OpeningNumbers
 pub mod Seats
 pub mod LawT
 pub mod Stated

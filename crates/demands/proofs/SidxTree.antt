@@ -25,8 +25,7 @@ use Rattle.machine.specs.Faults as faults
 use Rattle.machine.specs.Run.{Res, okay, fail, fieldD, plain}
 use Rattle.machine.specs.declared.Refusal.{Refusal}
 use Rattle.machine.proofs.Faults.{none-first, none-second, shows-none}
-use Rattle.machine.proofs.Kept.{Each, each-none, each-shows, each-append}
-use Rattle.machine.proofs.Readings.{Says, says-okay, says-fail, says-unless, says-kept, says-field}
+use Rattle.machine.proofs.Readings.{Says, says-okay, says-unless, says-kept, says-field}
 use Rattle.state.specs.declared.Span.{Span}
 use Rattle.state.specs.declared.Top.{Top}
 use Rattle.state.specs.declared.Slot.{Slot}
@@ -40,7 +39,7 @@ use Rattle.basics.specs.Put.{putAll}
 use Rattle.state.specs.Sidx.{Place, topmost, under, partOf, sidxVersionFaults, idFaults, scaleFaults, timeFaults, offsetFaults, countFaults, sumFaults, wideMore, indexOf, sizeOf, entrySizeFaults, plusSize, plusDuration, nextEntry, wordPlace, numberPlace, keepByte}
 use Rattle.descent.specs.Sidx.{closeD, entryD, entriesD, countedD, countD, reservedD, offsetD, timeD, scaleD, idD, flagsD, versionD, sidxD}
 use Rattle.demands.specs.Told.{upon, clean, indexFrom, entryPart, withEntries, suits}
-use Rattle.demands.proofs.Upons.{upon-unless, upon-okay, clean-append, clean-shows, upon-field}
+use Rattle.demands.proofs.Upons.{each-any, upon-unless, upon-okay, clean-append, clean-shows, upon-field}
 use Rattle.demands.proofs.Stored.{put-more, entryHere, entry-here}
 
 -- what flows with bytes put into the work area
@@ -647,43 +646,6 @@ sidx-fitting p span f n xs ys k e = by (ltb (length xs) 24) refl
     by true q = rw (sidx-short xs (ltb-true (length xs) 24 q))
     by false q = sidx-tree p span f n xs ys k e (ltb-false (length xs) 24 q)
 
--- A refusal in an index is not 15.
-abbrev Other : Refusal → Type 0
-Other x = x .number ≢ 15
-
-version-other : (span : Span) (v n : ℕ) → Each Other (sidxVersionFaults span v n)
-unfolding sidxVersionFaults
-version-other span v n = each-append Other _ _ (each-shows Other _ 10 _ (omega arith)) (each-shows Other _ 6 _ (omega arith))
-
-id-other : (p : Place) (span : Span) (v : ℕ) → Each Other (idFaults p span v)
-unfolding idFaults
-id-other topmost span v = each-none Other
-id-other (under top slot around) span v = each-shows Other _ 12 _ (omega arith)
-
-scale-other : (p : Place) (span : Span) (v : ℕ) → Each Other (scaleFaults p span v)
-unfolding scaleFaults
-scale-other topmost span v = each-shows Other _ 11 _ (omega arith)
-scale-other (under top slot around) span v = each-append Other _ _ (each-shows Other _ 11 _ (omega arith)) (each-shows Other _ 12 _ (omega arith))
-
-time-other : (p : Place) (span : Span) (now v : ℕ) → Each Other (timeFaults p span now v)
-unfolding timeFaults
-time-other topmost span now v = each-none Other
-time-other (under top slot around) span now v = each-shows Other _ 12 _ (omega arith)
-
-offset-other : (p : Place) (span : Span) (v : ℕ) → Each Other (offsetFaults p span v)
-unfolding offsetFaults
-offset-other topmost span v = each-none Other
-offset-other (under top slot around) span v = each-shows Other _ 12 _ (omega arith)
-
-count-other : (span : Span) (v n : ℕ) → Each Other (countFaults span v n)
-unfolding countFaults
-count-other span v n = each-append Other _ _ (each-shows Other _ 6 _ (omega arith)) (each-shows Other _ 11 _ (omega arith))
-
-sum-other : (p : Place) (span : Span) (x : Index) (now n : ℕ) → Each Other (sumFaults p span x now n)
-unfolding sumFaults
-sum-other topmost span x now n = each-shows Other _ 14 _ (omega arith)
-sum-other (under top slot around) span x now n = each-shows Other _ 12 _ (omega arith)
-
 -- a count that shows no fault is that of the bytes that the box has left
 count-left : (span : Span) (v n : ℕ) → countFaults span v n ≡ [] → (span .end ≡ n + entryBytes * v) × (v ≢ 0)
 unfolding countFaults
@@ -694,13 +656,13 @@ count-left span v n e =
       eqb-false v 0 (or-neither (eqb v 0) (ltb mostEntries v) (shows-none many 11 (span .pos) (none-second lengths (shows many 11 (span .pos)) e)) .0),
     )
 
--- An accepted index ends where its box does, of `all` bytes; a refused one is not refused with 15.
+-- An accepted index ends where its box does, of `all` bytes.
 module _ (p : Place) (span : Span) (all : ℕ) where
   abbrev Ends : Index → Flow → ℕ → List ℕ → Type 0
   Ends x g m cs = (m ≡ span .end) × (m + length cs ≡ all)
 
   abbrev Told : Res Index Flow Left → Type 0
-  Told r = Says Ends (λ x l m. Other x) r
+  Told r = Says Ends (λ x l m. Unit {0}) r
 
   abbrev Reads : (ℕ → Flow → ℕ → List ℕ → Res Index Flow Left) → Type 0
   Reads k = (v : ℕ) (f : Flow) (n : ℕ) (bs : List ℕ) → n + length bs ≡ all → Told (k v f n bs)
@@ -710,8 +672,8 @@ module _ (p : Place) (span : Span) (all : ℕ) where
   number-told k s m acc f n bs e = says-field Ends _ left k m acc f n bs (λ v cs q. s v f (n + m) cs (omega arith))
 
   -- faults that a byte shows
-  faults-told : (xs : List Refusal) (l : Left) (n : ℕ) (r : Res Index Flow Left) → Each Other xs → (xs ≡ [] → Told r) → Told (faults.unless xs (λ x. fail x l n) r)
-  faults-told xs l n r g s = says-unless Ends (λ x l m. Other x) xs l n r g s
+  faults-told : (xs : List Refusal) (l : Left) (n : ℕ) (r : Res Index Flow Left) → (xs ≡ [] → Told r) → Told (faults.unless xs (λ x. fail x l n) r)
+  faults-told xs l n r s = says-unless Ends (λ x l m. Unit {0}) xs l n r (each-any xs) s
 
   -- a number of an entry
   word-told : (e : EntryPart) (s : Sums) (k : ℕ → Flow → ℕ → List ℕ → Res Index Flow Left) (f : Flow) (n : ℕ) (bs : List ℕ) → n + length bs ≡ all →
@@ -721,14 +683,14 @@ module _ (p : Place) (span : Span) (all : ℕ) where
 
   close-told : (x : Index) (f : Flow) (n : ℕ) (bs : List ℕ) → n ≡ span .end → n + length bs ≡ all → Told (closeD p span x f n bs)
   unfolding closeD
-  close-told x f n bs e q = faults-told (sumFaults p span x (f .now) n) _ n _ (sum-other p span x (f .now) n) (λ z. (e, q))
+  close-told x f n bs e q = faults-told (sumFaults p span x (f .now) n) _ n _ (λ z. (e, q))
 
   entry-told : (more : Sums → Flow → ℕ → List ℕ → Res Index Flow Left) (s : Sums) (f : Flow) (n : ℕ) (bs : List ℕ) → n + length bs ≡ all →
       ((t : Sums) (g : Flow) (m : ℕ) (cs : List ℕ) → m ≡ n + entryBytes → m + length cs ≡ all → Told (more t g m cs)) → Told (entryD p span more s f n bs)
   unfolding entryD
   entry-told more s f n bs q h =
       word-told entry.Size s _ f n bs q
-      (λ v g m cs e q1. faults-told (entrySizeFaults span v) _ m _ (each-shows Other _ 11 _ (omega arith))
+      (λ v g m cs e q1. faults-told (entrySizeFaults span v) _ m _
       (λ z. word-told entry.Duration (plusSize s v) _ g m cs q1
       (λ u g' m' cs' e' q2. word-told entry.Sap (plusDuration (plusSize s v) u) _ g' m' cs' q2
       (λ w g'' m'' cs'' e'' q3. h (plusDuration (plusSize s v) u) g'' m'' cs'' (omega arith) q3))))
@@ -745,7 +707,7 @@ module _ (p : Place) (span : Span) (all : ℕ) where
 
   count-told : (d : Draft) → Reads (countD p span d)
   unfolding countD
-  count-told d v f n bs q = faults-told (countFaults span v n) _ n _ (count-other span v n) (λ z. let (e, c) = count-left span v n z in counted-told d v f n bs q e c)
+  count-told d v f n bs q = faults-told (countFaults span v n) _ n _ (λ z. let (e, c) = count-left span v n z in counted-told d v f n bs q e c)
 
   reserved-told : (d : Draft) → Reads (reservedD p span d)
   unfolding reservedD
@@ -753,19 +715,19 @@ module _ (p : Place) (span : Span) (all : ℕ) where
 
   offset-told : (d : Draft) → Reads (offsetD p span d)
   unfolding offsetD
-  offset-told d v f n bs q = faults-told (offsetFaults p span v) _ n _ (offset-other p span v) (λ z. number-told _ (reserved-told _) 2 0 f n bs q)
+  offset-told d v f n bs q = faults-told (offsetFaults p span v) _ n _ (λ z. number-told _ (reserved-told _) 2 0 f n bs q)
 
   time-told : (d : Draft) → Reads (timeD p span d)
   unfolding timeD
-  time-told d v f n bs q = faults-told (timeFaults p span (f .now) v) _ n _ (time-other p span (f .now) v) (λ z. number-told _ (offset-told _) _ 0 f n bs q)
+  time-told d v f n bs q = faults-told (timeFaults p span (f .now) v) _ n _ (λ z. number-told _ (offset-told _) _ 0 f n bs q)
 
   scale-told : (d : Draft) → Reads (scaleD p span d)
   unfolding scaleD
-  scale-told d v f n bs q = faults-told (scaleFaults p span v) _ n _ (scale-other p span v) (λ z. number-told _ (time-told _) _ 0 f n bs q)
+  scale-told d v f n bs q = faults-told (scaleFaults p span v) _ n _ (λ z. number-told _ (time-told _) _ 0 f n bs q)
 
   id-told : (d : Draft) → Reads (idD p span d)
   unfolding idD
-  id-told d v f n bs q = faults-told (idFaults p span v) _ n _ (id-other p span v) (λ z. number-told _ (scale-told _) 4 0 f n bs q)
+  id-told d v f n bs q = faults-told (idFaults p span v) _ n _ (λ z. number-told _ (scale-told _) 4 0 f n bs q)
 
   flags-told : (d : Draft) → Reads (flagsD p span d)
   unfolding flagsD
@@ -773,7 +735,7 @@ module _ (p : Place) (span : Span) (all : ℕ) where
 
   version-told : Reads (versionD p span)
   unfolding versionD
-  version-told v f n bs q = faults-told (sidxVersionFaults span v n) _ n _ (version-other span v n) (λ z. number-told _ (flags-told _) 3 0 f n bs q)
+  version-told v f n bs q = faults-told (sidxVersionFaults span v n) _ n _ (λ z. number-told _ (flags-told _) 3 0 f n bs q)
 
   sidx-told : (f : Flow) (n : ℕ) (bs : List ℕ) → n + length bs ≡ all → Told (sidxD p span f n bs)
   unfolding sidxD
@@ -782,15 +744,11 @@ module _ (p : Place) (span : Span) (all : ℕ) where
 -- an accepted index ends where its box does, and what was read and what is left are all
 pub sidx-ends : (p : Place) (span : Span) (f : Flow) (n : ℕ) (bs : List ℕ) (x : Index) (g : Flow) (m : ℕ) (cs : List ℕ) → sidxD p span f n bs ≡ okay x g m cs →
     (m ≡ span .end) × (m + length cs ≡ n + length bs)
-sidx-ends p span f n bs x g m cs e = says-okay (Ends p span (n + length bs)) (λ y l i. Other y) (sidxD p span f n bs) x g m cs e (sidx-told p span (n + length bs) f n bs refl)
+sidx-ends p span f n bs x g m cs e = says-okay (Ends p span (n + length bs)) (λ y l i. Unit {0}) (sidxD p span f n bs) x g m cs e (sidx-told p span (n + length bs) f n bs refl)
 
 -- a body that is cut off is not accepted
 pub sidx-cut : {X : Type 0} (p : Place) (span : Span) (f : Flow) (n : ℕ) (bs : List ℕ) (k : Index → Flow → ℕ → List ℕ → Option X) → n + length bs < span .end → upon (sidxD p span f n bs) k ≡ none
 sidx-cut p span f n bs k l = upon-okay (sidxD p span f n bs) k (λ x g m cs e. let (q, r) = sidx-ends p span f n bs x g m cs e in absurd (omega arith))
-
--- a refusal in an index is not 15
-pub sidx-numbers : (p : Place) (span : Span) (f : Flow) (n : ℕ) (bs : List ℕ) (x : Refusal) (l : Left) (m : ℕ) → sidxD p span f n bs ≡ fail x l m → x .number ≢ 15
-sidx-numbers p span f n bs x l m e = says-fail (Ends p span (n + length bs)) (λ y l i. Other y) (sidxD p span f n bs) x l m e (sidx-told p span (n + length bs) f n bs refl)
 
 -- The top index suits its place where its sums do.
 pub suits-topmost : (span : Span) (i : tree.Index) (now : ℕ) → 0 < i .scale → suits topmost span i now ≡ clean (sumFaults topmost span (indexFrom i) now (span .end))

@@ -34,9 +34,9 @@ use Rattle.descent.specs.Whole.{Under, innerD, slotD, readBackD, entryD, entrie
 use Rattle.demands.specs.Told.{upon, climb}
 use Rattle.lookup.specs.Rows.{rowOf}
 use Rattle.demands.specs.Verdict.{Verdict, wrong, full, fine, judge, told, seen0, enlist, NotFine, Meets}
-use Rattle.demands.proofs.Verdicts.{meets-same, meets-equal, meets-trans, judge-after, judge-cong, judge-not, judge-upon, told-then, told-cong, told-meets, enlist-meets, enlist-now, enlist-both}
+use Rattle.demands.proofs.Verdicts.{meets-same, meets-equal, meets-trans, judge-after, judge-cong, judge-not, judge-told, told-then, told-cong, told-meets, enlist-meets, enlist-now, enlist-both}
 use Rattle.demands.proofs.Stored.{Alike, alike-trans, alike-refl, entryFrom, Holds, holds-alike}
-use Rattle.demands.proofs.LeafTree.{leaf-tree, leaf-first, leaf-full, leaf-ends, leaf-numbers}
+use Rattle.demands.proofs.LeafTree.{leaf-tree, leaf-first, leaf-full, leaf-no-room}
 
 -- The same but for the work area.
 pub record Like (f g : Flow) : Type 0 where
@@ -123,11 +123,9 @@ module _ (X : Type 0) (top : Top) (depth : ℕ) where
     with-room : noRoom (f .leaves) (f .table) ≡ false → Meets (judge (leafD (top .id) slot f n (xs ++ ys)) leaf-out) (told (leafTimes (top .id) xs) leaf-told)
     unfolding told
     with-room r =
-        rw (judge-upon (leafD (top .id) slot f n (xs ++ ys)) leaf-out (λ x l m e'. leaf-numbers (top .id) slot f n (xs ++ ys) x l m r e')
-        ∙ ap (λ (o : Option (Verdict X)). told o (λ v. v)) (leaf-tree (top .id) slot f n xs ys (λ q f' m cs. some (leaf-out q f' m cs)) (ap (λ (k : ℕ). n + k) sized) some-bytes r)
-        ∙ told-then (leafTimes (top .id) xs) _ (λ v. v)
-        ∙ told-cong (leafTimes (top .id) xs) _ (λ ts. told (climb (seen0 (f .last)) ts) (λ s. leaf-out s f (slot .end) ys)) (λ ts q. told-then (climb (seen0 (f .last)) ts) _ (λ v. v)))
-        (told-meets (leafTimes (top .id) xs) _ leaf-told (λ ts q. room-told ts q r))
+        judge-told (leafD (top .id) slot f n (xs ++ ys)) leaf-out (leafTimes (top .id) xs) _ leaf-told
+        (leaf-tree (top .id) slot f n xs ys (λ q f' m cs. some (leaf-out q f' m cs)) (ap (λ (k : ℕ). n + k) sized) some-bytes r)
+        (λ ts q. rw (told-then (climb (seen0 (f .last)) ts) (λ s. some (leaf-out s f (slot .end) ys)) (λ v. v)) (room-told ts q r))
 
     -- a leaf beyond the room
     no-room : noRoom (f .leaves) (f .table) ≡ true → Meets (judge (leafD (top .id) slot f n (xs ++ ys)) leaf-out) (told (leafTimes (top .id) xs) leaf-told)
@@ -137,7 +135,7 @@ module _ (X : Type 0) (top : Top) (depth : ℕ) where
         at : (o : Option (List ℕ)) → leafTimes (top .id) xs ≡ o → Meets (judge (leafD (top .id) slot f n (xs ++ ys)) leaf-out) (told o leaf-told)
         at none q =
             judge-not (leafD (top .id) slot f n (xs ++ ys)) leaf-out
-            (λ s f' m cs e'. absurd (true≢false (sym r ∙ leaf-ends (top .id) slot f n (xs ++ ys) s f' m cs e' .2)))
+            (λ s f' m cs e'. absurd (leaf-no-room (top .id) slot f n (xs ++ ys) refl r s f' m cs e'))
         at (some ts) q = rw (leaf-full (top .id) slot f n xs ys ts r refl (ap (λ (k : ℕ). n + k) sized) q .1, same-room true r) refl
 
     leaf-meets : Meets (judge (leafD (top .id) slot f n (xs ++ ys)) leaf-out) (told (leafTimes (top .id) xs) leaf-told)

@@ -15,6 +15,8 @@ use Rattle.machine.specs.declared.Refusal.{Refusal}
 use Rattle.machine.proofs.Fields.{field-take, field-short}
 use Rattle.state.specs.Flow.{Flow, Left, left}
 use Rattle.demands.specs.Told.{upon, clean}
+use Rattle.machine.proofs.Kept.{Each}
+use Rattle.machine.proofs.Readings.{Says}
 
 module _ {R Q X : Type 0} where
   -- a reading after another
@@ -86,3 +88,23 @@ module _ {R X : Type 0} (k : ℕ → Flow → ℕ → List ℕ → Res R Flow Le
   pub upon-few : (m : ℕ) (f : Flow) (n : ℕ) (bs : List ℕ) → length bs < m → upon (fieldD left plain k m 0 f n bs) h ≡ none
   unfolding upon
   upon-few m f n bs l = ap (λ r. upon r h) (field-short left k m 0 f n bs l)
+
+-- Nothing is known of a result, or of a refusal; and a result that there is not.
+abbrev pub Any : {R : Type 0} → R → Flow → ℕ → List ℕ → Type 0
+Any r f n bs = Unit {0}
+
+abbrev pub Anyhow : Refusal → Left → ℕ → Type 0
+Anyhow x l n = Unit {0}
+
+abbrev pub Never : {R : Type 0} → R → Flow → ℕ → List ℕ → Type 0
+Never r f n bs = ⊥
+
+pub each-any : (xs : List Refusal) → Each (λ x. Unit {0}) xs
+unfolding Each
+each-any [] = tt
+each-any (x ∷ xs) = (tt, each-any xs)
+
+pub says-any : {R : Type 0} (r : Res R Flow Left) → Says Any Anyhow r
+says-any (okay q f n bs) = tt
+says-any (fail x l n) = tt
+says-any (cut l n) = tt

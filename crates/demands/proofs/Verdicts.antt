@@ -66,14 +66,6 @@ judge-not (okay q f n bs) k h = h q f n bs refl
 judge-not (fail x l n) k h = pick-not (eqb (x .number) 15) (full (x .place)) wrong tt tt
 judge-not (cut l n) k h = tt
 
--- a reading whose refusals are not number 15, by what is made of it where it is accepted
-pub judge-upon : {R X : Type 0} (r : Res R Flow Left) (k : R → Flow → ℕ → List ℕ → Verdict X) → ((x : Refusal) (l : Left) (n : ℕ) → r ≡ fail x l n → x .number ≢ 15) →
-    judge r k ≡ told (upon r (λ q f n bs. some (k q f n bs))) (λ v. v)
-unfolding judge upon told
-judge-upon (okay q f n bs) k h = refl
-judge-upon (fail x l n) k h = pick-no (eqb (x .number) 15) _ _ (ne-eqb (x .number) 15 (h x l n refl))
-judge-upon (cut l n) k h = refl
-
 -- What the tree tells.
 pub told-then : {A B X : Type 0} (o : Option A) (g : A → Option B) (k : B → Verdict X) → told (andThen o g) k ≡ told o (λ a. told (g a) k)
 unfolding told andThen
@@ -94,6 +86,19 @@ pub told-not : {A X : Type 0} (o : Option A) (g : A → Verdict X) → ((a : A) 
 unfolding told
 told-not none g e = tt
 told-not (some a) g e = e a refl
+
+-- A reading meets what the tree says, where the two are accepted together and what then follows meets: what the tree does not accept is
+-- refused, whatever the number.
+judge-meets : {R X : Type 0} (r : Res R Flow Left) (k : R → Flow → ℕ → List ℕ → Verdict X) → Meets (judge r k) (told (upon r (λ q f n bs. some (k q f n bs))) (λ v. v))
+unfolding judge upon told
+judge-meets (okay q f n bs) k = meets-same (k q f n bs)
+judge-meets (fail x l n) k = pick-not (eqb (x .number) 15) (full (x .place)) wrong tt tt
+judge-meets (cut l n) k = tt
+
+pub judge-told : {A R X : Type 0} (r : Res R Flow Left) (k : R → Flow → ℕ → List ℕ → Verdict X) (o : Option A) (p : A → Option (Verdict X)) (say : A → Verdict X) →
+    upon r (λ q f n bs. some (k q f n bs)) ≡ andThen o p → ((a : A) → o ≡ some a → Meets (told (p a) (λ v. v)) (say a)) → Meets (judge r k) (told o say)
+judge-told r k o p say e h =
+    meets-trans (judge r k) (told o (λ a. told (p a) (λ v. v))) (told o say) (rw (e, told-then o p (λ v. v)) at (judge-meets r k)) (told-meets o (λ a. told (p a) (λ v. v)) say h)
 
 -- Leaves listed.
 pub enlist-append : {X : Type 0} (ps qs : List Part) (f : Flow) (k : Flow → Verdict X) → enlist (ps ++ qs) f k ≡ enlist ps f (λ g. enlist qs g k)
