@@ -16,8 +16,9 @@ use Rattle.basics.proofs.Tests.{and-both, and-not}
 use Rattle.basics.proofs.Options.{absurd-some, then-cong, then-none, then-assoc, then-pick, then-inv, pick-some}
 use Rattle.segment.specs.Constants.{styp, sidx, moof, mdat, traf, tfhd, tfdt}
 use Rattle.segment.specs.Boxes.{provided, Field, field, Box, firstBox, cut, boxes, among, without, timeBytes, tfhdTrack, tfdtTime}
-use Rattle.segment.specs.Leaves.{moofFirst, leafBoxes, trafTimes, gather, moofTimes, nonEmpty, leafTimes, neverFall}
+use Rattle.segment.specs.Leaves.{moofFirst, leafBoxes, trafTimes, gather, moofTimes, nonEmpty, leafTimes}
 use Rattle.segment.specs.Tree.{firstTime}
+use Rattle.segment.proofs.Said.{field-rest}
 use Rattle.machine.specs.Faults.{refusal, shows, lowest, unless}
 use Rattle.machine.specs.Run.{Res, okay, fail, cut as cutOff, either, fieldD, plain}
 use Rattle.machine.specs.Heads.{boxEnd, headD, sizeFaults}
@@ -43,7 +44,7 @@ use Rattle.demands.specs.Walks.{trafItem, trafWalk, moofItem, moofWalk, 
 use Rattle.demands.proofs.Upons.{Never, Anyhow, each-any, clean-none, upon-after, upon-unless, upon-field, clean-append, clean-shows, upon-some}
 use Rattle.demands.proofs.HeadTree.{head-tree}
 use Rattle.demands.proofs.ListTree.{list-tree, start-tree}
-use Rattle.demands.proofs.WalkTree.{not-or, field-rest, body-length, traf-faults, cut-fits, traf-walk, moof-walk, leaf-walk, first-seen, lastTime, climb-told}
+use Rattle.demands.proofs.WalkTree.{not-or, body-length, traf-faults, cut-fits, traf-walk, moof-walk, leaf-walk, first-seen}
 
 -- A number of the tree, where there are enough bytes.
 pub field-tree : {R X : Type 0} (k : ℕ → Flow → ℕ → List ℕ → Res R Flow Left) (h : R → Flow → ℕ → List ℕ → Option X) (m : ℕ) (f : Flow) (n : ℕ) (xs ys : List ℕ) → m ≤ length xs →
@@ -285,15 +286,6 @@ leaf-first id last xs ts s e c =
     let (bs, _, p) = then-inv (leafBoxes xs) _ ts e in
     let (us, _, q) = then-inv (gather moof (moofTimes id) bs) nonEmpty ts p in
     first-seen last ts us s q c
-
--- what is made of the first and the last time that a leaf shows
-pub leaf-times : {X : Type 0} (id last : ℕ) (xs ts : List ℕ) (k : ℕ → ℕ → Option X) → leafTimes id xs ≡ some ts →
-    andThen (climb (leafSo0 last .seen) ts) (λ s. k (s .first) (s .last)) ≡ pick (neverFall last ts) (k (firstTime ts) (lastTime last ts)) none
-unfolding leafTimes
-leaf-times id last xs ts k e =
-    let (bs, _, p) = then-inv (leafBoxes xs) _ ts e in
-    let (us, _, q) = then-inv (gather moof (moofTimes id) bs) nonEmpty ts p in
-    climb-told last ts us k q
 
 -- An accepted reading, from what it gives.
 boxes-same : (a b : List Box) → some a ≡ some b → a ≡ b

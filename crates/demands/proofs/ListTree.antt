@@ -37,53 +37,6 @@ unfolding cut
 cut-cons j [] l = absurd (omega arith)
 cut-cons j (x ∷ xs) l = refl
 
--- more turns than there are bytes change nothing
-pub cut-same : (i j : ℕ) (xs : List ℕ) → length xs ≤ i → length xs ≤ j → cut i xs ≡ cut j xs
-unfolding cut
-cut-same zero j [] l m = sym (cut-nil j)
-cut-same (suc i) j [] l m = sym (cut-nil j)
-cut-same zero j (x ∷ xs) l m = absurd (omega arith)
-cut-same (suc i) zero (x ∷ xs) l m = absurd (omega arith)
-cut-same (suc i) (suc j) (x ∷ xs) l m =
-    then-cong (firstBox (x ∷ xs)) _ _
-    (λ b e.
-    let fb : FirstBox (x ∷ xs) b = first-box (x ∷ xs) b e in
-    let d : length (drop (b .size) (x ∷ xs)) ≡ suc (length xs) - b .size = length-drop (b .size) (x ∷ xs) in
-    let s : 8 ≤ b .size = omega (arith, fb .eight, fb .bodied) in
-    ap (λ o. andThen o (λ bs. some (b ∷ bs))) (cut-same i j (drop (b .size) (x ∷ xs)) (omega arith) (omega arith)))
-
-pub cut-enough : (j : ℕ) (xs : List ℕ) → length xs ≤ j → cut j xs ≡ boxes xs
-cut-enough j xs l = cut-same j (length xs) xs l (omega arith)
-
--- of a box: its header has 8 bytes or more, and header and body are all of it
-pub record Headed (b : Box) : Type 0 where
-  pub eight : 8 ≤ headLength b
-  pub bodied : headLength b + length (b .body) ≡ b .size
-
--- what holds of each box
-abbrev pub Each : (Box → Type 0) → List Box → Type 0
-Each P [] = Unit {0}
-Each P (b ∷ bs) = P b × Each P bs
-
-pub each-so : (P P' : Box → Type 0) → ((b : Box) → P b → P' b) → (bs : List Box) → Each P bs → Each P' bs
-each-so P P' h [] u = tt
-each-so P P' h (b ∷ bs) (p, ps) = (h b p, each-so P P' h bs ps)
-
-cut-headed : (j : ℕ) (xs : List ℕ) (bs : List Box) → cut j xs ≡ some bs → Each Headed bs
-unfolding cut
-cut-headed zero [] bs e = let q : [] ≡ bs = cc in rw (← q) tt
-cut-headed (suc j) [] bs e = let q : [] ≡ bs = cc in rw (← q) tt
-cut-headed zero (x ∷ xs) bs e = absurd-some e
-cut-headed (suc j) (x ∷ xs) bs e =
-    let (b, f, e') = then-inv (firstBox (x ∷ xs)) _ bs e in
-    let (cs, g, e'') = then-inv (cut j (drop (b .size) (x ∷ xs))) _ bs e' in
-    let q : b ∷ cs ≡ bs = cc in
-    let fb : FirstBox (x ∷ xs) b = first-box (x ∷ xs) b f in
-    rw (← q) (record { eight = fb .eight; bodied = fb .bodied }, cut-headed j (drop (b .size) (x ∷ xs)) cs g)
-
-pub boxes-headed : (xs : List ℕ) (bs : List Box) → boxes xs ≡ some bs → Each Headed bs
-boxes-headed xs bs e = cut-headed (length xs) xs bs e
-
 -- the boxes that follow may be cut first, or after what the box before them gives
 swap : {A R X : Type 0} (o : Option (List Box)) (s : Bool) (i : Option R) (e : R → Bool) (g : R → List Box → Option A) (k : A → Option X) →
     pick s (andThen i (λ r. pick (e r) (andThen o (λ bs. andThen (g r bs) k)) none)) none ≡ andThen o (λ bs. andThen (pick s (andThen i (λ r. pick (e r) (g r bs) none)) none) k)

@@ -164,26 +164,17 @@ still (levels.Three a b c) = refl
 still (levels.Four a b c d) = refl
 
 -- an entry is taken: the innermost index stands at the next one, and nothing else moves
-inmost-took : (ls : Levels) → inmost (tookEntry ls) ≡ took (inmost ls)
-unfolding inmost tookEntry
-inmost-took (levels.One a) = refl
-inmost-took (levels.Two a b) = refl
-inmost-took (levels.Three a b c) = refl
-inmost-took (levels.Four a b c d) = refl
+record Took (ls : Levels) : Type 0 where
+  inner : inmost (tookEntry ls) ≡ took (inmost ls)
+  deep : depth (tookEntry ls) ≡ depth ls
+  outer : outerOpen (tookEntry ls) ≡ outerOpen ls
 
-depth-took : (ls : Levels) → depth (tookEntry ls) ≡ depth ls
-unfolding depth tookEntry
-depth-took (levels.One a) = refl
-depth-took (levels.Two a b) = refl
-depth-took (levels.Three a b c) = refl
-depth-took (levels.Four a b c d) = refl
-
-outer-took : (ls : Levels) → outerOpen (tookEntry ls) ≡ outerOpen ls
-unfolding outerOpen tookEntry
-outer-took (levels.One a) = refl
-outer-took (levels.Two a b) = refl
-outer-took (levels.Three a b c) = refl
-outer-took (levels.Four a b c d) = refl
+taking : (ls : Levels) → Took ls
+unfolding inmost tookEntry depth outerOpen
+taking (levels.One a) = record { inner = refl; deep = refl; outer = refl }
+taking (levels.Two a b) = record { inner = refl; deep = refl; outer = refl }
+taking (levels.Three a b c) = record { inner = refl; deep = refl; outer = refl }
+taking (levels.Four a b c d) = record { inner = refl; deep = refl; outer = refl }
 
 -- an index is opened inside the innermost one
 record Pushed (ls : Levels) (l : Level) : Type 0 where
@@ -210,10 +201,6 @@ module _ (top : Top) where
   abbrev rest : Option Levels → Unit {0} → Flow → ℕ → List ℕ → Res Top Flow Left
   rest o u g m cs = S m cs (onward top o g)
 
-  abbrev Runs : Under → Levels → Type 0
-  Runs inner ls = (k : ℕ) → k + inmost ls .next ≡ inmost ls .count → (f : Flow) (n : ℕ) (bs : List ℕ) →
-      S n bs (follow top ls f) ≡ after (entriesD inner top (depth ls) k (inmost ls) f n bs) (rest (outerOpen ls))
-
   -- what is known of an index opened inside: its entries, all to come
   abbrev Opens : Under → Levels → Type 0
   Opens inner ls = (l : Level) → l .next ≡ 0 → (f : Flow) (n : ℕ) (bs : List ℕ) →
@@ -238,7 +225,7 @@ module _ (top : Top) where
     unfolding stepSlot slotD run either
     slot-run true slot f n b bs =
         in-inner top (tookEntry ls) slot (suc n) bs (stepBox (innerKind top slot (depth (tookEntry ls))) (inHead at.First) f n b)
-        ∙ ap (λ d. after (run left (stepBox (innerKind top slot d)) (inHead at.First) f n (b ∷ bs)) (λ x g m cs. S m cs (follow top (push (tookEntry ls) (innerLevel x slot)) g))) (depth-took ls)
+        ∙ ap (λ d. after (run left (stepBox (innerKind top slot d)) (inHead at.First) f n (b ∷ bs)) (λ x g m cs. S m cs (follow top (push (tookEntry ls) (innerLevel x slot)) g))) (taking ls .deep)
         ∙ ap (λ (r : Res Index Flow Left). after r (λ x g m cs. S m cs (follow top (push (tookEntry ls) (innerLevel x slot)) g))) (sym (inner-run top slot (depth ls) f n (b ∷ bs)))
         ∙ after-cong (innerD top slot (depth ls) f n (b ∷ bs)) _ _ (λ x g m cs e. deeper slot f n (b ∷ bs) x g m cs e)
         ∙ sym (after-assoc (innerD top slot (depth ls) f n (b ∷ bs)) (λ x g m cs. inner (suc (depth ls)) (innerLevel x slot) g m cs) next)
@@ -263,8 +250,8 @@ module _ (top : Top) where
       ∙ entry-run inner ls (λ h. ih ls refl h) f n bs
       ∙ after-cong (entryD inner top (depth ls) (inmost ls) f n bs) _ _
       (λ u g m cs q.
-      entries-run inner k (tookEntry ls) (rw (inmost-took ls) (omega arith)) (λ ms d h. ih ms (d ∙ depth-took ls) h) g m cs
-      ∙ rw (inmost-took ls, depth-took ls) (ap (λ o. after (entriesD inner top (depth ls) k (took (inmost ls)) g m cs) (rest o)) (outer-took ls)))
+      entries-run inner k (tookEntry ls) (rw (taking ls .inner) (omega arith)) (λ ms d h. ih ms (d ∙ taking ls .deep) h) g m cs
+      ∙ rw (taking ls .inner, taking ls .deep) (ap (λ o. after (entriesD inner top (depth ls) k (took (inmost ls)) g m cs) (rest o)) (taking ls .outer)))
       ∙ sym (after-assoc (entryD inner top (depth ls) (inmost ls) f n bs) (λ u g m cs. entriesD inner top (depth ls) k (took (inmost ls)) g m cs) (rest (outerOpen ls)))
 
   -- an index opened inside, so many levels being left
@@ -273,8 +260,8 @@ module _ (top : Top) where
   opens zero ls e h l z f n bs = absurd (omega arith)
   opens (suc k) ls e h l z f n bs =
       let ps : Levels = push (tookEntry ls) l in
-      let p : Pushed (tookEntry ls) l = pushed (tookEntry ls) l (rw (depth-took ls) h) in
-      let dp : depth ps ≡ suc (depth ls) = p .deeper ∙ ap (λ (d : ℕ). suc d) (depth-took ls) in
+      let p : Pushed (tookEntry ls) l = pushed (tookEntry ls) l (rw (taking ls .deep) h) in
+      let dp : depth ps ≡ suc (depth ls) = p .deeper ∙ ap (λ (d : ℕ). suc d) (taking ls .deep) in
       entries-run (λ d l' g m cs. underD k top d l' g m cs) (l .count) ps (rw (p .inner) (omega arith)) (λ ms d h'. opens k ms (omega arith) h') f n bs
       ∙ rw (p .inner, dp) (ap (λ o. after (entriesD (λ d l' g m cs. underD k top d l' g m cs) top (suc (depth ls)) (l .count) l f n bs) (rest o)) (p .outer))
 

@@ -18,7 +18,7 @@ use Rattle.basics.proofs.Options.{then-cong, then-none, then-assoc, then-inv, t
 use Rattle.segment.specs.Constants.{entryBytes, mostEntries}
 use Rattle.segment.specs.Boxes.{provided, unless, Field, field, Entry, entryOf, entriesOf, sizes, durations, timeBytes, sidxIndex}
 use Rattle.segment.specs.Boxes as tree
-use Rattle.segment.proofs.Said.{field-some}
+use Rattle.segment.proofs.Said.{then-goes, field-some, field-none}
 use Rattle.segment.proofs.NonEmpty.{entries-count, Sized, entries-sized}
 use Rattle.machine.specs.Faults.{shows}
 use Rattle.machine.specs.Faults as faults
@@ -182,17 +182,11 @@ module _ (t : Bool) (xs : List ℕ) where
       let l8 = dropped 2 atCount (omega arith) in
       omega arith
 
-  rooms-from : 1 ≤ length xs → 3 ≤ length atFlags → 4 ≤ length atId → 4 ≤ length atScale → wide t ≤ length atTime → wide t ≤ length atOffset → 2 ≤ length atReserved → 2 ≤ length atCount → Rooms
-  rooms-from h1 h2 h3 h4 h5 h6 h7 h8 =
-      let l1 = dropped 1 xs h1 in
-      let l2 = dropped 3 atFlags h2 in
-      let l3 = dropped 4 atId h3 in
-      let l4 = dropped 4 atScale h4 in
-      let l5 = dropped (wide t) atTime h5 in
-      let l6 = dropped (wide t) atOffset h6 in
-      let l7 = dropped 2 atReserved h7 in
-      let l8 = dropped 2 atCount h8 in
-      omega arith
+  rooms-from : 2 ≤ length atCount → Rooms
+  rooms-from h =
+      let q : 8 + (4 + wide t) + (wide t + 2) ≡ before - 2 = omega arith in
+      let c : atCount ≡ drop (before - 2) xs = simp drop-drop (rw q) in
+      rooms (omega (arith, ap length c, length-drop (before - 2) xs))
 
   -- the index of the tree, where the bytes of its numbers are there
   abbrev restHere : Option tree.Index
@@ -221,13 +215,8 @@ module _ (t : Bool) (xs : List ℕ) where
 
 -- a number that was read had its bytes there
 field-inv : {A : Type 0} (m : ℕ) (xs : List ℕ) (g : Field → Option A) (a : A) → andThen (field m xs) g ≡ some a → (m ≤ length xs) × (g (record { value = number (take m xs); rest = drop m xs }) ≡ some a)
-unfolding field andThen pick
-field-inv m xs g a e = at (ltb (length xs) m) refl e
-  where
-    at : (t : Bool) → ltb (length xs) m ≡ t → andThen (pick t none (some (record { value = number (take m xs); rest = drop m xs }))) g ≡ some a →
-        (m ≤ length xs) × (g (record { value = number (take m xs); rest = drop m xs }) ≡ some a)
-    at true q z = absurd-some z
-    at false q z = (ltb-false (length xs) m q, z)
+field-inv m xs g a e =
+    ⊎-elim (λ (few : length xs < m). absurd-some (sym (field-none m xs g few) ∙ e)) (λ (l : m ≤ length xs). (l, sym (then-goes (field m xs) g _ (field-some m xs l)) ∙ e)) (lt-or-ge (length xs) m)
 
 -- there is no version above 1
 time-none : (v : ℕ) → 1 < v → timeBytes v ≡ none
@@ -273,7 +262,7 @@ sidx-inv xs i e =
     let (p7, r7) = field-inv (wide t) (atOffset t xs) _ i r6 in
     let (p8, r8) = field-inv 2 (atReserved t xs) _ i r7 in
     let (p9, r9) = field-inv 2 (atCount t xs) _ i r8 in
-    record { version-known = p2; rooms-there = rooms-from t xs p1 p3 p4 p5 p6 p7 p8 p9; rest-there = r9 }
+    record { version-known = p2; rooms-there = rooms-from t xs p9; rest-there = r9 }
 
 -- the entry bytes of an index's body are those after its numbers
 part-here : (t : Bool) (xs : List ℕ) (i : tree.Index) → Rooms t xs → length (atEntries t xs) ≡ entryBytes * length (i .entries) → entryPart i xs ≡ atEntries t xs

@@ -22,13 +22,8 @@ use Rattle.state.specs.Flow.{Flow, Left, left}
 use Rattle.state.specs.Opening.{Opened, passed, unlisted}
 use Rattle.descent.specs.Opening.{brandsD, stypD}
 use Rattle.demands.specs.Told.{upon, clean}
-use Rattle.segment.proofs.Said.{field-some}
+use Rattle.segment.proofs.Said.{then-goes, field-some, field-none}
 use Rattle.demands.proofs.Upons.{upon-unless, clean-shows, upon-field, upon-few}
-
--- a number that the bytes do not have
-pub field-none : (width : ℕ) (xs : List ℕ) → length xs < width → field width xs ≡ none
-unfolding field
-field-none width xs l = pick-yes (ltb (length xs) width) none _ (lt-ltb (length xs) width l)
 
 -- which of two numbers is named first does not matter
 eqb-sym : (a b : ℕ) → eqb a b ≡ eqb b a
@@ -55,8 +50,7 @@ styp-words : (xs : List ℕ) → 8 ≤ length xs → length xs % 4 ≡ 0 → sty
 unfolding stypBrands andThen
 styp-words xs l m =
     pick-yes (eqb (length xs % 4) 0) _ none (eq-eqb (length xs % 4) 0 m)
-    ∙ ap (λ (o : Option Field). andThen o (λ major. andThen (field 4 (major .rest)) (λ minor. words (length (minor .rest) / 4) (minor .rest)))) (field-some 4 xs (omega arith))
-    ∙ ap (λ (o : Option Field). andThen o (λ minor. words (length (minor .rest) / 4) (minor .rest))) (field-some 4 (drop 4 xs) (omega (arith, length-drop 4 xs)))
+    ∙ then-goes (field 4 xs) _ _ (field-some 4 xs (omega arith)) ∙ then-goes (field 4 (drop 4 xs)) _ _ (field-some 4 (drop 4 xs) (omega (arith, length-drop 4 xs)))
 
 -- a `styp` without its two first numbers says nothing
 styp-few : (xs : List ℕ) → length xs < 8 → stypBrands xs ≡ none
@@ -65,10 +59,8 @@ styp-few xs l = pick-if (eqb (length xs % 4) 0) (λ o. o) _ _ none (λ e. by (lt
   where
     by : (length xs < 4) ⊎ (4 ≤ length xs) →
         andThen (field 4 xs) (λ major. andThen (field 4 (major .rest)) (λ minor. words (length (minor .rest) / 4) (minor .rest))) ≡ none
-    by (inl s) = ap (λ (o : Option Field). andThen o (λ major. andThen (field 4 (major .rest)) (λ minor. words (length (minor .rest) / 4) (minor .rest)))) (field-none 4 xs s)
-    by (inr s) =
-        ap (λ (o : Option Field). andThen o (λ major. andThen (field 4 (major .rest)) (λ minor. words (length (minor .rest) / 4) (minor .rest)))) (field-some 4 xs s)
-        ∙ ap (λ (o : Option Field). andThen o (λ minor. words (length (minor .rest) / 4) (minor .rest))) (field-none 4 (drop 4 xs) (omega (arith, length-drop 4 xs)))
+    by (inl s) = field-none 4 xs _ s
+    by (inr s) = then-goes (field 4 xs) _ _ (field-some 4 xs s) ∙ field-none 4 (drop 4 xs) _ (omega (arith, length-drop 4 xs))
 
 -- nor does one that is not whole numbers
 styp-odd : (xs : List ℕ) → eqb (length xs % 4) 0 ≡ false → stypBrands xs ≡ none

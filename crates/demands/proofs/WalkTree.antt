@@ -16,6 +16,7 @@ use Rattle.segment.specs.Constants.{styp, sidx, moof, mdat, traf, tfhd, tfdt, t
 use Rattle.segment.specs.Boxes.{topKinds, provided, Field, field, Box, boxOf, firstBox, cut, among, only, without, timeBytes, tfhdTrack, tfdtTime}
 use Rattle.segment.specs.Leaves.{moofFirst, headAndTime, trafTimes, gather, moofTimes, nonEmpty, neverFall}
 use Rattle.segment.specs.Tree.{firstTime}
+use Rattle.segment.proofs.Said.{field-rest, first-box}
 use Rattle.machine.specs.Faults.{shows}
 use Rattle.machine.specs.declared.Header.{Header}
 use Rattle.state.specs.declared.Seen.{Seen}
@@ -37,30 +38,7 @@ abbrev pub Fits : List Box → Type 0
 Fits [] = Unit {0}
 Fits (b ∷ bs) = (length (b .body) ≤ b .size) × Fits bs
 
-box-fits : (header size kind : ℕ) (xs : List ℕ) (b : Box) → boxOf header size kind xs ≡ some b → length (b .body) ≤ b .size
-unfolding boxOf
-box-fits header size kind xs b e =
-    let p = pick-else (ltb size header) _ b e in
-    let q = pick-else (ltb (length xs) (size - header)) _ b (p .1) in
-    let s : record { kind = kind; size = size; body = take (size - header) xs } ≡ b = cc in
-    rw (← s) (omega (arith, length-take (size - header) xs))
-
--- a box of the tree is so
-pub first-fits : (xs : List ℕ) (b : Box) → firstBox xs ≡ some b → length (b .body) ≤ b .size
-unfolding firstBox pick
-first-fits xs b e =
-    let (size, _, e₁) = then-inv (field 4 xs) _ b e in
-    let (kind, _, e₂) = then-inv (field 4 (size .rest)) _ b e₁ in
-    sized (eqb (size .value) 1) size kind e₂
-  where
-    sized : (t : Bool) (size kind : Field) →
-        pick t (andThen (field 8 (kind .rest)) (λ long. boxOf 16 (long .value) (kind .value) (long .rest))) (boxOf 8 (size .value) (kind .value) (kind .rest)) ≡ some b → length (b .body) ≤ b .size
-    sized true size kind q =
-        let (long, _, e₃) = then-inv (field 8 (kind .rest)) _ b q in
-        box-fits 16 (long .value) (kind .value) (long .rest) b e₃
-    sized false size kind q = box-fits 8 (size .value) (kind .value) (kind .rest) b q
-
--- and so are the boxes of a list
+-- the boxes of a list are so
 pub cut-fits : (k : ℕ) (xs : List ℕ) (bs : List Box) → cut k xs ≡ some bs → Fits bs
 unfolding cut
 cut-fits zero [] bs e = let q : _≡_ {A = List Box} [] bs = cc in rw (← q) tt
@@ -70,7 +48,7 @@ cut-fits (suc k) (x ∷ xs) bs e =
     let (b, e₁, e₂) = then-inv (firstBox (x ∷ xs)) _ bs e in
     let (cs, e₃, e₄) = then-inv (cut k (drop (b .size) (x ∷ xs))) _ bs e₂ in
     let q : _≡_ {A = List Box} (b ∷ cs) bs = cc in
-    rw (← q) (first-fits (x ∷ xs) b e₁, cut-fits k (drop (b .size) (x ∷ xs)) cs e₃)
+    rw (← q) (omega (arith, first-box (x ∷ xs) b e₁ .bodied), cut-fits k (drop (b .size) (x ∷ xs)) cs e₃)
 
 -- Decode times that never fall: of one list after another.
 pub climb-append : (s : Seen) (ts us : List ℕ) → climb s (ts ++ us) ≡ andThen (climb s ts) (λ s'. climb s' us)
@@ -102,45 +80,6 @@ first-seen last ts [] s e c = absurd-some e
 first-seen last ts (u ∷ us) s e c =
     let q : _≡_ {A = List ℕ} (u ∷ us) ts = cc in
     rw (← q) (climb-first (leafSo0 last .seen) u us s refl (rw (← q) at c) .1)
-
--- the last of some times, and else the last before them
-unfoldable pub lastTime : ℕ → List ℕ → ℕ
-lastTime last [] = last
-lastTime last (t ∷ ts) = lastTime t ts
-
--- the last time is the last seen
-pub climb-last : (s : Seen) (ts : List ℕ) (s' : Seen) → climb s ts ≡ some s' → s' .last ≡ lastTime (s .last) ts
-unfolding climb saw lastTime
-climb-last s [] s' e = let q : s ≡ s' = cc in rw (← q)
-climb-last s (t ∷ ts) s' e = climb-last (saw s true t) ts s' (pick-else (ltb t (s .last)) _ s' e .1)
-
--- times are seen to their end exactly where they never fall
-pub climb-never : {X : Type 0} (s : Seen) (ts : List ℕ) (o : Option X) → andThen (climb s ts) (λ s'. o) ≡ pick (neverFall (s .last) ts) o none
-unfolding climb andThen neverFall pick saw
-climb-never s [] o = refl
-climb-never s (t ∷ ts) o = at (ltb t (s .last)) (climb-never (saw s true t) ts o)
-  where
-    at : (b : Bool) → andThen (climb (saw s true t) ts) (λ s'. o) ≡ pick (neverFall t ts) o none → andThen (pick b none (climb (saw s true t) ts)) (λ s'. o) ≡ pick (pick b false (neverFall t ts)) o none
-    at true more = refl
-    at false more = more
-
--- of one list after another
-pub never-append : (last : ℕ) (ts us : List ℕ) → neverFall last (ts ++ us) ≡ neverFall last ts && neverFall (lastTime last ts) us
-unfolding neverFall lastTime pick
-never-append last [] us = refl
-never-append last (t ∷ ts) us = at (ltb t last) (never-append t ts us)
-  where
-    at : (b : Bool) → neverFall t (ts ++ us) ≡ neverFall t ts && neverFall (lastTime t ts) us →
-        pick b false (neverFall t (ts ++ us)) ≡ pick b false (neverFall t ts) && neverFall (lastTime t ts) us
-    at true more = refl
-    at false more = more
-
--- What is made of the first and the last time that a leaf shows.
-pub climb-told : {X : Type 0} (last : ℕ) (ts us : List ℕ) (k : ℕ → ℕ → Option X) → nonEmpty us ≡ some ts →
-    andThen (climb (leafSo0 last .seen) ts) (λ s. k (s .first) (s .last)) ≡ pick (neverFall last ts) (k (firstTime ts) (lastTime last ts)) none
-climb-told last ts us k e =
-    then-cong (climb (leafSo0 last .seen) ts) _ (λ s. k (firstTime ts) (lastTime last ts)) (λ s q. rw (first-seen last ts us s e q, climb-last (leafSo0 last .seen) ts s q))
-    ∙ climb-never (leafSo0 last .seen) ts (k (firstTime ts) (lastTime last ts))
 
 -- A test that fails after another, and the tests of a list of faults.
 and-false : (t : Bool) → t && false ≡ false
@@ -361,15 +300,6 @@ pub traf-faults : (t : Track) (h : Header) →
     ≡ not ((is h tfhd || is h tfdt) && ltb (bodyLength h) 8) && (not (is h tfhd && not (fresh t) || is h tfdt && not (headedTrack t)) && not (is h tfad))
 unfolding trafFaults
 traf-faults t h = simp (clean-append, clean-shows)
-
--- what is left after a number
-pub field-rest : (m : ℕ) (xs : List ℕ) (x : Field) → field m xs ≡ some x → (m ≤ length xs) × (length (x .rest) ≡ length xs - m)
-unfolding field
-field-rest m xs x e =
-    let p = pick-else (ltb (length xs) m) _ x e in
-    let l : m ≤ length xs = ltb-false (length xs) m (p .0) in
-    let q : record { value = number (take m xs); rest = drop m xs } ≡ x = cc in
-    rw (← q) (l, length-drop m xs)
 
 -- a time has 4 bytes at the least
 time-bytes : (v w : ℕ) → timeBytes v ≡ some w → 4 ≤ w

@@ -33,7 +33,7 @@ pub field-enough : {X : Type 0} (m : ℕ) (xs : List ℕ) (k : ℕ → List ℕ 
     andThen (field m xs) (λ v. k (v .value) (v .rest)) ≡ k (number (take m xs)) (drop m xs)
 field-enough m xs k l = then-goes (field m xs) _ _ (field-some m xs l)
 
-field-none : {X : Type 0} (m : ℕ) (xs : List ℕ) (k : Field → Option X) → length xs < m → andThen (field m xs) k ≡ none
+pub field-none : {X : Type 0} (m : ℕ) (xs : List ℕ) (k : Field → Option X) → length xs < m → andThen (field m xs) k ≡ none
 unfolding field andThen pick
 field-none m xs k l = rw (lt-ltb (length xs) m l)
 
@@ -43,6 +43,9 @@ field-says width xs f e =
     let (enough, said) = pick-else _ _ f e in
     let same = Option·some-injective _ _ said in
     (ap (λ (g : Field). g .value) (sym same), ap (λ (g : Field). g .rest) (sym same), ltb-false (length xs) width enough)
+
+pub field-rest : (width : ℕ) (xs : List ℕ) (f : Field) → field width xs ≡ some f → (width ≤ length xs) × (length (f .rest) ≡ length xs - width)
+field-rest width xs f e = let (value, rest, long) = field-says width xs f e in (long, ap length rest ∙ length-drop width xs)
 
 -- What a header says: size, type, and its own length.
 pub record Start : Type 0 where
