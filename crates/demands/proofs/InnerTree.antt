@@ -37,30 +37,11 @@ use Rattle.demands.specs.Verdict.{Verdict, judge, told, enlist, Meets}
 use Rattle.demands.proofs.Upons.{clean-append, clean-shows}
 use Rattle.demands.proofs.Verdicts.{judge-after, judge-not, judge-told, told-then}
 use Rattle.demands.proofs.SegmentRun.{too-deep}
+use Rattle.demands.proofs.Shown.{kindOf, inner-shown}
 use Rattle.demands.proofs.HeadTree.{box-tree}
 use Rattle.demands.proofs.SidxTree.{suits-under, sidx-fitting, SidxFacts, sidx-facts}
 use Rattle.demands.proofs.Stored.{alike-trans, alike-less, put-length, put-alike, entryFrom, holds}
 use Rattle.demands.proofs.TileTree.{Like, Goes, Follows, Deeper, tile-meets}
-
--- The header of an index entry's first box shows no fault where it is that of an index that is long enough, below level 5.
--- (s: it is a `styp`, x: it is an index, p and q: too short for one and for the other)
-header-tests : (s x p q : Bool) → (x ≡ true → s ≡ false) → (not (s && p) && not (x && q)) && (not s && (not (not x) && not (x && false))) ≡ pick x (not q) false
-unfolding pick
-header-tests true true p q k = absurd (true≢false (k refl))
-header-tests true false true q k = refl
-header-tests true false false q k = refl
-header-tests false true p true k = refl
-header-tests false true p false k = refl
-header-tests false false p q k = refl
-
-other-kind : (h : Header) → is h sidx ≡ true → is h styp ≡ false
-other-kind h e = ne-eqb (h .kind) styp (λ q. let x : h .kind ≡ sidx = eqb-true (h .kind) sidx e in omega arith)
-
-inner-clean : (d : ℕ) (h : Header) → d < 4 → clean (innerFaults d h) ≡ pick (is h sidx) (not (ltb (bodyLength h) 24)) false
-unfolding innerFaults topLengths
-inner-clean d h l =
-    simp (clean-append, clean-shows, lt-leb mostLevels d l)
-    (header-tests (is h styp) (is h sidx) (ltb (bodyLength h) 8 || not (eqb (bodyLength h % 4) 0)) (ltb (bodyLength h) 24) (other-kind h))
 
 -- An inner index suits its place where it suits its entry.
 suits-inner : (top : Top) (slot : Slot) (d : ℕ) (span : Span) (o : Opened) (now n dur all : ℕ) → 0 < o .index .scale → span .end ≡ n + o .box .size → slot .end ≡ n + all → slot .until ≡ now + dur →
@@ -103,7 +84,7 @@ module _ {X : Type 0} (top : Top) (slot : Slot) (d : ℕ) (f : Flow) (n dur : �
   unfolding pick andThen
   one-box b fb =
       let same : b .size - headLength b ≡ length (b .body) = omega (arith, fb .bodied) in
-      rw (inner-clean d (headerOf n b) shallow, same) (at (eqb (b .kind) sidx))
+      rw (inner-shown d (headerOf n b) shallow (kindOf (b .kind)), same) (at (eqb (b .kind) sidx))
     where
       at : (t : Bool) → pick (pick t (not (ltb (length (b .body)) 24)) false) (upon (bodyAt (headerOf n b) f (n + headLength b) (b .body ++ (drop (b .size) xs ++ ys))) k) none
           ≡ andThen (pick t (andThen (openIndex b xs) suiting) none) opened

@@ -5,6 +5,7 @@ pub mod SegmentRun
 pub mod LawD
 pub mod Upons
 pub mod Verdicts
+pub mod Shown
 pub mod WalkTree
 pub mod Stored
 pub mod LeafTree

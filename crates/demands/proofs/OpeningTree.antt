@@ -34,70 +34,8 @@ use Rattle.demands.specs.Told.{upon, clean, headLength, headerOf, indexF
 use Rattle.demands.proofs.Upons.{upon-either, upon-after, clean-append, clean-shows}
 use Rattle.demands.proofs.HeadTree.{box-open}
 use Rattle.demands.proofs.SidxTree.{sidx-fitting, sidx-cut, sidx-facts, suits-topmost}
+use Rattle.demands.proofs.Shown.{kindOf, first-shown, later-shown}
 use Rattle.demands.proofs.StypTree.{misfit, styp-checked, styp-cut}
-
--- the tests of a header before the top index
-faults-clean : (branded : Bool) (h : Header) → clean (openingFaults branded h)
-    ≡ (not (is h styp && misfit (bodyLength h)) && not (is h sidx && ltb (bodyLength h) 24)) && (not (pick branded (is h styp) (not (is h styp))) && not (is h moof || is h mdat))
-unfolding openingFaults topLengths
-faults-clean branded h =
-    simp (clean-append, clean-shows)
-
--- a box of one type is of no other
-other : (h : Header) (a b : ℕ) → eqb a b ≡ false → is h a ≡ true → is h b ≡ false
-other h a b e q = ap (λ k. eqb k b) (eqb-true (h .kind) a q) ∙ e
-
--- tests of which the last fails, or of which all but the first hold
-fails : {X : Type 0} (t : Bool) (A : Option X) → pick (t && false) A none ≡ none
-unfolding pick
-fails true A = refl
-fails false A = refl
-
-holds : {X : Type 0} (t : Bool) (A : Option X) → pick ((t && true) && true) A none ≡ pick t A none
-unfolding pick
-holds true A = refl
-holds false A = refl
-
-holds' : {X : Type 0} (t : Bool) (A : Option X) → pick (t && true) A none ≡ pick t A none
-unfolding pick
-holds' true A = refl
-holds' false A = refl
-
--- The first box must be a `styp`.
-first-shown : {X : Type 0} (h : Header) (A B C : Option X) →
-    pick (clean (openingFaults false h)) (pick (is h styp) A (pick (is h sidx) B C)) none ≡ pick (is h styp) (pick (not (misfit (bodyLength h))) A none) none
-unfolding pick
-first-shown h A B C = rw (faults-clean false h) (by (is h styp) refl)
-  where
-    by : (s : Bool) → is h styp ≡ s →
-        pick ((not (s && misfit (bodyLength h)) && not (is h sidx && ltb (bodyLength h) 24)) && (not (not s) && not (is h moof || is h mdat))) (pick s A (pick (is h sidx) B C)) none
-        ≡ pick s (pick (not (misfit (bodyLength h))) A none) none
-    by true e = rw (other h styp sidx refl e, other h styp moof refl e, other h styp mdat refl e) (holds (not (misfit (bodyLength h))) A)
-    by false e = fails (not (is h sidx && ltb (bodyLength h) 24)) (pick (is h sidx) B C)
-
--- the tests of a box that is no index
-passes : {X : Type 0} (s w m d : Bool) (A C : Option X) →
-    pick ((not (s && w) && true) && (not s && not (m || d))) (pick s A C) none ≡ pick (pick s true (pick m true (pick d true false))) none C
-unfolding pick
-passes true true m d A C = refl
-passes true false m d A C = refl
-passes false w true d A C = refl
-passes false w false true A C = refl
-passes false w false false A C = refl
-
--- Later ones are skipped, up to the index; no `styp`, `moof` or `mdat` is among them.
-later-shown : {X : Type 0} (h : Header) (A B C : Option X) →
-    pick (clean (openingFaults true h)) (pick (is h styp) A (pick (is h sidx) B C)) none
-    ≡ pick (is h sidx) (pick (not (ltb (bodyLength h) 24)) B none) (pick (among (h .kind) topKinds) none C)
-unfolding pick among
-later-shown {X} h A B C = rw (faults-clean true h) (by (is h sidx) refl)
-  where
-    by : (i : Bool) → is h sidx ≡ i →
-        pick ((not (is h styp && misfit (bodyLength h)) && not (i && ltb (bodyLength h) 24)) && (not (is h styp) && not (is h moof || is h mdat))) (pick (is h styp) A (pick i B C)) none
-        ≡ pick i (pick (not (ltb (bodyLength h) 24)) B none)
-        (pick (pick (is h styp) true (pick i true (pick (is h moof) true (pick (is h mdat) true false)))) none C)
-    by true e = rw (other h sidx styp refl e, other h sidx moof refl e, other h sidx mdat refl e) (holds' (not (ltb (bodyLength h) 24)) B)
-    by false e = passes (is h styp) (misfit (bodyLength h)) (is h moof) (is h mdat) A C
 
 -- Where the top index ends, in so many bytes in all, and where its box stands.
 abbrev pub topEnd : ℕ → tree.Opened → ℕ
@@ -237,7 +175,7 @@ module _ {X : Type 0} (brand : ℕ) (f : Flow) where
         (λ b q.
         let fb = first-box bs b q in
         ap (λ (o : Option X). pick (clean (openingFaults true (headerOf n b))) o none) (by-kind turns true n bs b fb)
-        ∙ later-shown (headerOf n b) _ _ _
+        ∙ later-shown (headerOf n b) _ _ _ (kindOf (b .kind))
         ∙ pick-both (eqb (b .kind) sidx) (λ o. o) (λ o. andThen o (atTop f k all)) _ _ _ _
         (on-sidx turns true n bs b fb ∙ here all n bs b q e)
         (pick-both (among (b .kind) topKinds) (λ o. o) (λ o. andThen o (atTop f k all)) _ _ _ _ refl
@@ -255,7 +193,7 @@ module _ {X : Type 0} (brand : ℕ) (f : Flow) where
         (λ b q.
         let fb = first-box bs b q in
         ap (λ (o : Option X). pick (clean (openingFaults false (headerOf 0 b))) o none) (by-kind (length bs) false 0 bs b fb)
-        ∙ first-shown (headerOf 0 b) _ _ _
+        ∙ first-shown (headerOf 0 b) _ _ _ (kindOf (b .kind))
         ∙ pick-both (eqb (b .kind) styp) (λ o. o) (λ o. andThen o (atTop f k (length bs))) _ _ _ _
         (on-styp (length bs) false 0 bs b fb
         ∙ then-cong (stypBrands (b .body)) _ _

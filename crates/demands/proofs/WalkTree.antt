@@ -32,6 +32,7 @@ use Rattle.state.specs.Leaf.{Passed, skipped, seeing, seenNow, leafNow, leafSo0
 use Rattle.demands.specs.Told.{clean, climb, headerOf}
 use Rattle.demands.specs.Walks.{walk, trafItem, trafWalk, moofItem, moofWalk, leafItem, leafWalk, gapWalk}
 use Rattle.demands.proofs.Upons.{clean-append, clean-shows}
+use Rattle.demands.proofs.Shown.{Kind, at-styp, at-sidx, at-moof, at-mdat, other, kindOf, gap-shown, leafTakes, leaf-shown}
 
 -- Boxes none of which has a body longer than its size.
 abbrev pub Fits : List Box → Type 0
@@ -81,59 +82,11 @@ first-seen last ts (u ∷ us) s e c =
     let q : _≡_ {A = List ℕ} (u ∷ us) ts = cc in
     rw (← q) (climb-first (leafSo0 last .seen) u us s refl (rw (← q) at c) .1)
 
--- A test that fails after another, and the tests of a list of faults.
-and-false : (t : Bool) → t && false ≡ false
-and-false true = refl
-and-false false = refl
-
--- Which of the types known at the top level a box has, if any.
-data Top (k : ℕ) : Type 0 where
-  at-styp : k ≡ styp → Top k
-  at-sidx : k ≡ sidx → Top k
-  at-moof : k ≡ moof → Top k
-  at-mdat : k ≡ mdat → Top k
-  other : eqb k styp ≡ false → eqb k sidx ≡ false → eqb k moof ≡ false → eqb k mdat ≡ false → Top k
-
-top : (k : ℕ) → Top k
-top k = at (eqb k styp) (eqb k sidx) (eqb k moof) (eqb k mdat) refl refl refl refl
-  where
-    at : (s x m d : Bool) → eqb k styp ≡ s → eqb k sidx ≡ x → eqb k moof ≡ m → eqb k mdat ≡ d → Top k
-    at true x m d e f g h = at-styp (eqb-true k styp e)
-    at false true m d e f g h = at-sidx (eqb-true k sidx f)
-    at false false true d e f g h = at-moof (eqb-true k moof g)
-    at false false false true e f g h = at-mdat (eqb-true k mdat h)
-    at false false false false e f g h = other e f g h
-
-top-lengths : (h : Header) → clean (topLengths h) ≡ not (is h styp && (ltb (bodyLength h) 8 || not (eqb (bodyLength h % 4) 0))) && not (is h sidx && ltb (bodyLength h) 24)
-unfolding topLengths
-top-lengths h = simp (clean-append, clean-shows)
-
--- no `styp`, no `sidx`: no length is looked at
-top-lengths-none : (h : Header) → is h styp ≡ false → is h sidx ≡ false → clean (topLengths h) ≡ true
-top-lengths-none h e g = rw (top-lengths h, e, g)
-
-gap-faults : (h : Header) → clean (gapFaults h) ≡ clean (topLengths h) && (not (is h styp) && not (is h moof || is h mdat || is h sidx))
-unfolding gapFaults
-gap-faults h = simp (clean-append, clean-shows)
-
-gap-kinds : (k : ℕ) (lengths : Bool) → Top k → (eqb k styp ≡ false → eqb k sidx ≡ false → lengths ≡ true) →
-    lengths && (not (eqb k styp) && not (eqb k moof || eqb k mdat || eqb k sidx)) ≡ not (among k topKinds)
-unfolding among pick
-gap-kinds k t (at-styp e) l = rw e (and-false t)
-gap-kinds k t (at-sidx e) l = rw e (and-false t)
-gap-kinds k t (at-moof e) l = rw e (and-false t)
-gap-kinds k t (at-mdat e) l = rw e (and-false t)
-gap-kinds k t (other e f g d) l = rw (l e f, e, f, g, d)
-
--- the gap takes the boxes of no known type
-gap-shown : (h : Header) → clean (gapFaults h) ≡ not (among (h .kind) topKinds)
-gap-shown h = gap-faults h ∙ gap-kinds (h .kind) (clean (topLengths h)) (top (h .kind)) (top-lengths-none h)
-
 -- The boxes of the gap: only skipped ones.
 pub gap-walk : {X : Type 0} (pos : ℕ) (bs : List Box) (h : Unit {0} → Option X) → andThen (walk gapWalk tt pos bs) h ≡ pick (without topKinds bs) (h tt) none
 unfolding walk without andThen clean pick
 gap-walk pos [] h = refl
-gap-walk pos (b ∷ bs) h = rw (gap-shown (headerOf pos b)) (at (among (b .kind) topKinds) (gap-walk (pos + b .size) bs h))
+gap-walk pos (b ∷ bs) h = rw (gap-shown (headerOf pos b) (kindOf (b .kind))) (at (among (b .kind) topKinds) (gap-walk (pos + b .size) bs h))
   where
     at : (t : Bool) → andThen (walk gapWalk tt (pos + b .size) bs) h ≡ pick (without topKinds bs) (h tt) none →
         andThen (pick (not t) (walk gapWalk tt (pos + b .size) bs) none) h ≡ pick (pick t false (without topKinds bs)) (h tt) none
@@ -179,32 +132,6 @@ moof-walk id seen pos (b ∷ bs) h =
     ∙ gathered (eqb (b .kind) traf) (trafTimes id (b .body)) (gather traf (trafTimes id) bs) seen h (λ r. andThen (walk (moofWalk id) (seenNow seen r) (pos + b .size) bs) h)
     (λ s. moof-walk id s (pos + b .size) bs h) (moof-walk id seen (pos + b .size) bs h)
 
--- What a header shows in a leaf with room.
-leaf-faults : (pos : ℕ) (had : Bool) (h : Header) (f : Flow) →
-    clean (leafFaults pos had h f)
-    ≡ clean (topLengths h) && (not (is h styp) && (not (is h sidx || is h mdat && not had) && not (eqb (h .pos) pos && noRoom (f .leaves) (f .table))))
-unfolding leafFaults
-leaf-faults pos had h f = simp (clean-append, clean-shows)
-
--- whether a box of a type may stand in a leaf, after a `moof` or not
-leafTakes : ℕ → Bool → Bool
-leafTakes k had = pick (among k (styp ∷ sidx ∷ [])) false (pick (eqb k mdat) had true)
-
-leaf-kinds : (k : ℕ) (lengths had : Bool) → Top k → (eqb k styp ≡ false → eqb k sidx ≡ false → lengths ≡ true) →
-    lengths && (not (eqb k styp) && (not (eqb k sidx || eqb k mdat && not had) && true)) ≡ leafTakes k had
-unfolding among pick leafTakes
-leaf-kinds k l had (at-styp e) p = rw e (and-false l)
-leaf-kinds k l had (at-sidx e) p = rw e (and-false l)
-leaf-kinds k l had (at-moof e) p = rw (p (rw e) (rw e), e)
-leaf-kinds k l true (at-mdat e) p = rw (p (rw e) (rw e), e)
-leaf-kinds k l false (at-mdat e) p = rw (p (rw e) (rw e), e)
-leaf-kinds k l had (other e f g d) p = rw (p e f, e, f, d)
-
-leaf-shown : (pos : ℕ) (had : Bool) (h : Header) (f : Flow) → noRoom (f .leaves) (f .table) ≡ false → clean (leafFaults pos had h f) ≡ leafTakes (h .kind) had
-leaf-shown pos had h f room =
-    leaf-faults pos had h f
-    ∙ rw (room, and-false (eqb (h .pos) pos)) (leaf-kinds (h .kind) (clean (topLengths h)) had (top (h .kind)) (top-lengths-none h))
-
 -- The boxes of a leaf, after a `moof` or not.
 leafFrom : {X : Type 0} → ℕ → Bool → Seen → List Box → (Seen → Option X) → Option X
 leafFrom id had seen bs h =
@@ -229,7 +156,7 @@ moof-box false o rest seen h k p =
     passed-step true o seen k ∙ then-cong o _ (λ ts. none) (λ ts e. then-cong (climb seen ts) _ (λ s. none) (λ s e'. p s) ∙ then-none (climb seen ts)) ∙ then-none o
 
 -- one more box of a leaf
-leaf-box : {X : Type 0} (id : ℕ) (had : Bool) (seen : Seen) (b : Box) (bs : List Box) (h : Seen → Option X) (k : Passed → Option X) → Top (b .kind) →
+leaf-box : {X : Type 0} (id : ℕ) (had : Bool) (seen : Seen) (b : Box) (bs : List Box) (h : Seen → Option X) (k : Passed → Option X) → Kind (b .kind) →
     ((s : Seen) → k (seeing s) ≡ leafFrom id true s bs h) → k skipped ≡ leafFrom id had seen bs h →
     pick (leafTakes (b .kind) had) (andThen (pick (eqb (b .kind) moof) (andThen (moofTimes id (b .body)) (λ ts. andThen (climb seen ts) (λ s. some (seeing s)))) (some skipped)) k) none
     ≡ leafFrom id had seen (b ∷ bs) h
@@ -248,9 +175,9 @@ unfolding walk andThen clean pick climb leafFrom without gather moofFirst leafNo
 leaf-from id slot f room so pos [] h = sym (pick-if (so .moof) (λ t. pick t (h (so .seen)) none) true true (h (so .seen)) (λ e. refl) (λ e. refl))
 leaf-from id slot f room so pos (b ∷ bs) h =
     then-pick (clean (leafFaults (slot .pos) (so .moof) (headerOf pos b) f)) _ _
-    ∙ rw (leaf-shown (slot .pos) (so .moof) (headerOf pos b) f room)
+    ∙ rw (leaf-shown (slot .pos) (so .moof) (headerOf pos b) f room (kindOf (b .kind)))
     (ap (λ o. pick (leafTakes (b .kind) (so .moof)) o none) (then-assoc (leafItem id (so .seen) pos b) _ _)
-    ∙ leaf-box id (so .moof) (so .seen) b bs h (λ r. andThen (walk (leafWalk id slot f) (leafNow so r) (pos + b .size) bs) (λ so'. h (so' .seen))) (top (b .kind))
+    ∙ leaf-box id (so .moof) (so .seen) b bs h (λ r. andThen (walk (leafWalk id slot f) (leafNow so r) (pos + b .size) bs) (λ so'. h (so' .seen))) (kindOf (b .kind))
     (λ s. leaf-from id slot f room (record { moof = true; seen = s }) (pos + b .size) bs h)
     (leaf-from id slot f room so (pos + b .size) bs h))
 
