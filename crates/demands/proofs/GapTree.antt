@@ -30,23 +30,14 @@ use Rattle.demands.proofs.WalkTree.{gap-walk}
 use Rattle.demands.proofs.OpeningTree.{skip-body}
 use Rattle.demands.proofs.ListTree.{list-tree}
 
--- what the list does before its end, and there
-gap-goes : (end n : ℕ) → n ≢ end → gapNext end n ≡ again tt []
-unfolding gapNext
-gap-goes end n e = pick-no (eqb n end) _ _ (ne-eqb n end e)
-
-gap-stops : (end : ℕ) → gapNext end end ≡ over tt []
-unfolding gapNext
-gap-stops end = pick-yes (eqb end end) _ _ (eq-eqb end end refl)
-
 -- a gap that is not empty
 gap-some : {X : Type 0} (offset : ℕ) (f : Flow) (n : ℕ) (xs ys : List ℕ) (k : Unit {0} → Flow → ℕ → List ℕ → Option X) → 0 < length xs → length xs ≡ offset →
     upon (gapD offset f n (xs ++ ys)) k ≡ andThen (gapBoxes xs) (λ bs. k tt f (n + offset) ys)
-unfolding gapD gapBoxes andThen clean pick
+unfolding gapD gapBoxes gapNext andThen clean pick
 gap-some offset f n xs ys k l e =
     ap (λ (r : Res (Unit {0}) Flow Left). upon r k) (pick-no (eqb offset 0) _ _ (ne-eqb offset 0 (λ q. omega arith)))
     ∙ list-tree (stages.gapBoxes (n + offset)) (λ u h g m cs. skipTo tt (boxEnd h) g m cs) gapWalk (λ u. tt) (λ u. []) (n + offset) f (λ u. refl) (λ u. refl) (λ u h. refl)
-    (λ u b pos zs h eight bodied shown. skip-body tt f b pos zs h bodied) (λ u r m q. gap-goes (n + offset) m q) (λ u r. []) (λ u r. gap-stops (n + offset)) (λ u r. refl)
+    (λ u b pos zs h eight bodied shown. skip-body tt f b pos zs h bodied) (λ u r. []) (λ u r m. refl) (λ u r. refl)
     (length (xs ++ ys)) tt n xs ys k l (omega arith) (omega arith)
     ∙ then-cong (boxes xs) _ _ (λ bs q. gap-walk n bs (λ u. pick (clean []) (k tt f (n + offset) ys) none) ∙ sym (then-pick (without topKinds bs) (some bs) (λ cs. k tt f (n + offset) ys)))
     ∙ sym (then-assoc (boxes xs) _ _)

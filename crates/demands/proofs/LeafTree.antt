@@ -210,12 +210,9 @@ module _ {X : Type 0} (f : Flow) where
       start-tree (trafBoxes id span) (λ so. trafBodyD id (so .track)) (trafWalk id) (λ so. so .seen) (λ so. lacking (span .pos) (so .track)) (span .end) f
       (λ so. refl) (λ so. refl) (λ so h. refl)
       (λ so b pos zs k' eight bodied sound. traf-body id (so .track) b pos zs k' bodied sound)
-      (λ so r m q. pick-no (eqb m (span .end)) _ _ (ne-eqb m (span .end) q))
-      (λ so r. fallFaults (so .seen .last) r ++ lacking (span .pos) (trafNow so r .track))
-      (λ so r. pick-yes (eqb (span .end) (span .end)) _ _ (eq-eqb (span .end) (span .end) refl))
+      (λ so r. fallFaults (so .seen .last) r ++ lacking (span .pos) (trafNow so r .track)) (λ so r m. refl)
       (λ so r. clean-append (fallFaults (so .seen .last) r) (lacking (span .pos) (trafNow so r .track)))
-      (length (xs ++ ys)) (trafNext span (trafSo0 seen) [] n) (trafSo0 seen) n xs ys k
-      (λ q. pick-no (eqb n (span .end)) _ _ (ne-eqb n (span .end) q)) (λ q. pick-yes (eqb n (span .end)) _ _ (eq-eqb n (span .end) q)) e (omega arith)
+      (length (xs ++ ys)) (trafNext span (trafSo0 seen) [] n) (trafSo0 seen) n xs ys k refl e (omega arith)
       ∙ then-cong (boxes xs) _ _ (λ bs q. traf-walk id (span .pos) seen n bs (λ s. k s f (span .end) ys) (cut-fits (length xs) xs bs q))
       ∙ sym (then-assoc (boxes xs) _ _)
 
@@ -240,12 +237,8 @@ module _ {X : Type 0} (f : Flow) where
       start-tree (moofBoxes id end) (moofBodyD id) (moofWalk id) (λ s. s) (λ s. []) end f
       (λ s. refl) (λ s. refl) (λ s h. refl)
       (λ s b pos zs k' eight bodied sound. moof-body id s b pos zs k' bodied)
-      (λ s r m q. pick-no (eqb m end) _ _ (ne-eqb m end q))
-      (λ s r. [])
-      (λ s r. pick-yes (eqb end end) _ _ (eq-eqb end end refl))
-      (λ s r. refl)
-      (length (xs ++ ys)) (moofNext end seen n) seen n xs ys k
-      (λ q. pick-no (eqb n end) _ _ (ne-eqb n end q)) (λ q. pick-yes (eqb n end) _ _ (eq-eqb n end q)) e (omega arith)
+      (λ s r. []) (λ s r m. refl) (λ s r. refl)
+      (length (xs ++ ys)) (moofNext end seen n) seen n xs ys k refl e (omega arith)
       ∙ then-cong (boxes xs) _ _ (λ bs q. moof-walk id seen n bs (λ s. k s f end ys))
       ∙ sym (then-assoc (boxes xs) _ _)
 
@@ -271,10 +264,7 @@ leaf-tree id slot f n xs ys k e some' room =
     list-tree (state.leafBoxes id slot) (λ so. leafBodyD id (so .seen)) (leafWalk id slot f) (λ so. so .seen) (λ so. leafLacks slot so (left f)) (slot .end) f
     (λ so. refl) (λ so. refl) (λ so h. refl)
     (λ so b pos zs k' eight bodied sound. leaf-body f id (so .seen) b pos zs k' bodied)
-    (λ so r m q. pick-no (eqb m (slot .end)) _ _ (ne-eqb m (slot .end) q))
-    (λ so r. leafLacks slot (leafNow so r) (left f))
-    (λ so r. pick-yes (eqb (slot .end) (slot .end)) _ _ (eq-eqb (slot .end) (slot .end) refl))
-    (λ so r. refl)
+    (λ so r. leafLacks slot (leafNow so r) (left f)) (λ so r m. refl) (λ so r. refl)
     (length (xs ++ ys)) (leafSo0 (f .last)) n xs ys k some' e (omega arith)
     ∙ then-cong (boxes xs) _ _ (λ bs q. leaf-walk id slot f room (f .last) n bs (λ s. k s f (slot .end) ys))
     ∙ sym (then-assoc (leafBoxes xs) _ _ ∙ then-assoc (boxes xs) _ _ ∙ then-cong (boxes xs) _ _ (λ bs q. then-cong (provided (without (styp ∷ sidx ∷ []) bs) (provided (moofFirst bs) (some bs))) _ _ (λ cs q'. then-assoc (gather moof (moofTimes id) cs) nonEmpty _)))

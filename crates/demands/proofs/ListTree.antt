@@ -7,9 +7,11 @@ use mathlib.Core.Option.{Option, some, none}
 use mathlib.Core.Bool.{Bool, true, false, _&&_}
 use mathlib.Core.Logic.{_≢_}
 use native.Mathlib.Omega.{arith}
+use lib.Dec.{eqb}
 use lib.ListN.{length, drop, length-append, length-drop}
+use borrow.Author.Tests.{eq-eqb, ne-eqb}
 use Rattle.basics.specs.Choose.{pick, andThen}
-use Rattle.basics.proofs.Picks.{pick-if, pick-with}
+use Rattle.basics.proofs.Picks.{pick-yes, pick-no, pick-if, pick-with}
 use Rattle.basics.proofs.Options.{absurd-some, then-cong, then-assoc, then-inv, then-pick}
 use Rattle.segment.specs.Boxes.{Box, firstBox, cut, boxes}
 use Rattle.machine.specs.Run.{Res, okay}
@@ -77,9 +79,8 @@ module _ {A B R Q X : Type 0} (l : Boxes A B R Q Flow Left) (bodyD : A → Heade
     (shown : (a : A) (h : Header) → l .box a .shown h f ≡ w .shown a h)
     (law : (a : A) (b : Box) (pos : ℕ) (zs : List ℕ) (k : R → Flow → ℕ → List ℕ → Option X) → 8 ≤ headLength b → headLength b + length (b .body) ≡ b .size → clean (w .shown a (headerOf pos b)) ≡ true →
     upon (bodyD a (headerOf pos b) f (pos + headLength b) (b .body ++ zs)) k ≡ andThen (w .item a pos b) (λ r. k r f (pos + b .size) zs))
-    (goes : (a : A) (r : R) (n : ℕ) → n ≢ end → l .close a r f n ≡ again (w .next a r) (w .ends a r))
     (last : A → R → List Refusal)
-    (stops : (a : A) (r : R) → l .close a r f end ≡ over (result (w .next a r)) (last a r))
+    (closes : (a : A) (r : R) (n : ℕ) → l .close a r f n ≡ pick (eqb n end) (over (result (w .next a r)) (last a r)) (again (w .next a r) (w .ends a r)))
     (lasts : (a : A) (r : R) → clean (last a r) ≡ clean (w .ends a r) && clean (lacks (w .next a r))) where
   -- what the tree makes of bytes
   abbrev told : ℕ → A → ℕ → List ℕ → List ℕ → (Q → Flow → ℕ → List ℕ → Option X) → Option X
@@ -96,13 +97,13 @@ module _ {A B R Q X : Type 0} (l : Boxes A B R Q Flow Left) (bodyD : A → Heade
   unfolding goOnD upon
   go-on turns j a r n [] ys h e ih =
       let q : n ≡ end = omega arith in
-      rw (q, stops a r)
+      rw (q, closes a r end ∙ pick-yes (eqb end end) _ _ (eq-eqb end end refl))
       (upon-unless (last a r) (l .kept f) end (okay (result (w .next a r)) f end ys) h
       ∙ ap (λ t. pick t (h (result (w .next a r)) f end ys) none) (lasts a r)
       ∙ pick-and (clean (w .ends a r)) (clean (lacks (w .next a r))) (h (result (w .next a r)) f end ys)
       ∙ ap (λ o. pick (clean (w .ends a r)) o none) (sym (told-nil w result lacks end f j (w .next a r) end ys h)))
   go-on turns j a r n (x ∷ xs) ys h e ih =
-      rw (goes a r n (λ q. omega arith))
+      rw (closes a r n ∙ pick-no (eqb n end) _ _ (ne-eqb n end (λ q. omega arith)))
       (upon-unless (w .ends a r) (l .kept f) n (boxesD l bodyD turns (w .next a r) f n (x ∷ xs ++ ys)) h
       ∙ ap (λ o. pick (clean (w .ends a r)) o none) (ih (omega arith)))
 
@@ -142,13 +143,14 @@ module _ {A B R Q X : Type 0} (l : Boxes A B R Q Flow Left) (bodyD : A → Heade
 
   -- From a start that may end at once.
   pub start-tree : (turns : ℕ) (next : Next A Q) (a : A) (n : ℕ) (xs ys : List ℕ) (h : Q → Flow → ℕ → List ℕ → Option X) →
-      (n ≢ end → next ≡ again a []) → (n ≡ end → next ≡ over (result a) (lacks a)) → end ≡ n + length xs → length (xs ++ ys) ≤ turns →
+      next ≡ pick (eqb n end) (over (result a) (lacks a)) (again a []) → end ≡ n + length xs → length (xs ++ ys) ≤ turns →
       upon (goOnD l bodyD (boxesD l bodyD turns) next f n (xs ++ ys)) h
       ≡ andThen (boxes xs) (λ bs. andThen (walk w a n bs) (λ a'. pick (clean (lacks a')) (h (result a') f end ys) none))
   unfolding goOnD upon clean pick
-  start-tree turns next a n [] ys h more over' e lt =
+  start-tree turns next a n [] ys h starts e lt =
       let q : n ≡ end = omega arith in
-      rw (over' q)
+      rw (starts ∙ pick-yes (eqb n end) _ _ (eq-eqb n end q))
       (upon-unless (lacks a) (l .kept f) n (okay (result a) f n ys) h ∙ rw q (sym (told-nil w result lacks end f 0 a end ys h)))
-  start-tree turns next a n (x ∷ xs) ys h more over' e lt =
-      rw (more (λ q. omega arith)) (upon-unless [] (l .kept f) n (boxesD l bodyD turns a f n (x ∷ xs ++ ys)) h ∙ list-tree turns a n (x ∷ xs) ys h (omega arith) e lt)
+  start-tree turns next a n (x ∷ xs) ys h starts e lt =
+      rw (starts ∙ pick-no (eqb n end) _ _ (ne-eqb n end (λ q. omega arith)))
+      (upon-unless [] (l .kept f) n (boxesD l bodyD turns a f n (x ∷ xs ++ ys)) h ∙ list-tree turns a n (x ∷ xs) ys h (omega arith) e lt)
