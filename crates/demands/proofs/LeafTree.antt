@@ -20,7 +20,7 @@ use Rattle.segment.specs.Leaves.{moofFirst, leafBoxes, trafTimes, gather, moofT
 use Rattle.segment.specs.Tree.{firstTime}
 use Rattle.segment.proofs.Said.{field-rest}
 use Rattle.machine.specs.Faults.{refusal, shows, lowest, unless}
-use Rattle.machine.specs.Run.{Res, okay, fail, cut as cutOff, either, fieldD, plain}
+use Rattle.machine.specs.Run.{Res, okay, fail, either, after, fieldD, plain}
 use Rattle.machine.specs.Heads.{boxEnd, headD, sizeFaults}
 use Rattle.machine.specs.Lists.{boxD, boxesD}
 use Rattle.machine.specs.declared.Header.{Header}
@@ -216,18 +216,23 @@ module _ {X : Type 0} (f : Flow) where
       ∙ then-cong (boxes xs) _ _ (λ bs q. traf-walk id (span .pos) seen n bs (λ s. k s f (span .end) ys) (cut-fits (length xs) xs bs q))
       ∙ sym (then-assoc (boxes xs) _ _)
 
-  -- the body of a box in a `moof`
+  -- the body of a box that gives times where it is of a type, and is skipped where it is not
+  passed-body : (kind : ℕ) (D : ℕ → List ℕ → Res Seen Flow Left) (o : Option (List ℕ)) (seen : Seen) (b : Box) (pos : ℕ) (zs : List ℕ) (k : Passed → Flow → ℕ → List ℕ → Option X) →
+      headLength b + length (b .body) ≡ b .size →
+      (pos + b .size ≡ pos + headLength b + length (b .body) → upon (D (pos + headLength b) (b .body ++ zs)) (λ s g m cs. k (seeing s) g m cs)
+      ≡ andThen o (λ ts. andThen (climb seen ts) (λ s. k (seeing s) f (pos + b .size) zs))) →
+      upon (pick (eqb (b .kind) kind) (after (D (pos + headLength b) (b .body ++ zs)) (λ s g m cs. okay (seeing s) g m cs)) (skipTo skipped (pos + b .size) f (pos + headLength b) (b .body ++ zs))) k
+      ≡ andThen (pick (eqb (b .kind) kind) (andThen o (λ ts. andThen (climb seen ts) (λ s. some (seeing s)))) (some skipped)) (λ r. k r f (pos + b .size) zs)
+  unfolding andThen upon
+  passed-body kind D o seen b pos zs k e law =
+      item-both (eqb (b .kind) kind) _ _ _ _ k _
+      (λ q. upon-after (D (pos + headLength b) (b .body ++ zs)) _ k ∙ law (omega arith) ∙ passing o seen (λ r. k r f (pos + b .size) zs))
+      (λ q. skip-tree skipped k (pos + b .size) f (pos + headLength b) (b .body) zs (omega arith))
+
   moof-body : (id : ℕ) (seen : Seen) (b : Box) (pos : ℕ) (zs : List ℕ) (k : Passed → Flow → ℕ → List ℕ → Option X) → headLength b + length (b .body) ≡ b .size →
       upon (moofBodyD id seen (headerOf pos b) f (pos + headLength b) (b .body ++ zs)) k ≡ andThen (moofItem id seen pos b) (λ r. k r f (pos + b .size) zs)
-  unfolding moofBodyD moofItem andThen upon
-  moof-body id seen b pos zs k e =
-      let h : Header = headerOf pos b in
-      let far : pos + b .size ≡ pos + headLength b + length (b .body) = omega arith in
-      item-both (is h traf) _ _ _ _ k _
-      (λ q. upon-after (trafD id (spanOf h) seen f (pos + headLength b) (b .body ++ zs)) _ k
-      ∙ traf-tree id (spanOf h) seen (pos + headLength b) (b .body) zs (λ s g m cs. k (seeing s) g m cs) far
-      ∙ passing (trafTimes id (b .body)) seen (λ r. k r f (pos + b .size) zs))
-      (λ q. skip-tree skipped k (pos + b .size) f (pos + headLength b) (b .body) zs far)
+  unfolding moofBodyD moofItem
+  moof-body id seen b pos zs k e = passed-body traf (trafD id (spanOf (headerOf pos b)) seen f) (trafTimes id (b .body)) seen b pos zs k e (traf-tree id (spanOf (headerOf pos b)) seen (pos + headLength b) (b .body) zs _)
 
   -- A `moof`.
   pub moof-tree : (id end : ℕ) (seen : Seen) (n : ℕ) (xs ys : List ℕ) (k : Seen → Flow → ℕ → List ℕ → Option X) → end ≡ n + length xs →
@@ -245,15 +250,8 @@ module _ {X : Type 0} (f : Flow) where
   -- the body of a box in a leaf
   leaf-body : (id : ℕ) (seen : Seen) (b : Box) (pos : ℕ) (zs : List ℕ) (k : Passed → Flow → ℕ → List ℕ → Option X) → headLength b + length (b .body) ≡ b .size →
       upon (leafBodyD id seen (headerOf pos b) f (pos + headLength b) (b .body ++ zs)) k ≡ andThen (leafItem id seen pos b) (λ r. k r f (pos + b .size) zs)
-  unfolding leafBodyD leafItem andThen upon
-  leaf-body id seen b pos zs k e =
-      let h : Header = headerOf pos b in
-      let far : pos + b .size ≡ pos + headLength b + length (b .body) = omega arith in
-      item-both (is h moof) _ _ _ _ k _
-      (λ q. upon-after (moofD id (boxEnd h) seen f (pos + headLength b) (b .body ++ zs)) _ k
-      ∙ moof-tree id (boxEnd h) seen (pos + headLength b) (b .body) zs (λ s g m cs. k (seeing s) g m cs) far
-      ∙ passing (moofTimes id (b .body)) seen (λ r. k r f (pos + b .size) zs))
-      (λ q. skip-tree skipped k (pos + b .size) f (pos + headLength b) (b .body) zs far)
+  unfolding leafBodyD leafItem
+  leaf-body id seen b pos zs k e = passed-body moof (moofD id (pos + b .size) seen f) (moofTimes id (b .body)) seen b pos zs k e (moof-tree id (pos + b .size) seen (pos + headLength b) (b .body) zs _)
 
 -- A leaf, where there is room for it: accepted where its bytes are a leaf of the tree whose decode times never fall, with the times seen.
 pub leaf-tree : {X : Type 0} (id : ℕ) (slot : Slot) (f : Flow) (n : ℕ) (xs ys : List ℕ) (k : Seen → Flow → ℕ → List ℕ → Option X) →

@@ -288,6 +288,11 @@ fromFirst : {X : Type 0} → ℕ → Seen → List Box → (Seen → Option X) �
 fromFirst id seen [] h = none
 fromFirst id seen (b ∷ bs) h = pick (eqb (b .kind) tfhd) (andThen (tfhdTrack (b .body)) (λ v. afterHead (eqb v id) seen bs h)) none
 
+fromKnown : {X : Type 0} → ℕ → Track → Seen → List Box → (Seen → Option X) → Option X
+fromKnown id track.Fresh seen bs h = fromFirst id seen bs h
+fromKnown id (track.Headed r) seen bs h = afterHead r seen bs h
+fromKnown id track.Timed seen bs h = afterTime bs (h seen)
+
 -- that is the tree's rule 6
 two-boxes : {X : Type 0} (s t : Bool) (o p : Option ℕ) (id : ℕ) (seen : Seen) (h : Seen → Option X) →
     andThen (pick s (pick t (andThen o (λ i. andThen p (λ v. some (pick (eqb i id) (v ∷ []) [])))) none) none) (λ ts. andThen (climb seen ts) h)
@@ -377,59 +382,38 @@ module _ (id : ℕ) where
     unfolding only pick among
     known-no b bs e f g = rw (e, f, g)
 
-    traf-timed : (seen : Seen) (pos : ℕ) (bs : List Box) → Fits bs → andThen (walk (trafWalk id) (record { track = track.Timed; seen = seen }) pos bs) ended ≡ afterTime (known bs) (h seen)
-    unfolding walk andThen only among pick afterTime lacking clean fresh headedTrack
-    traf-timed seen pos [] l = refl
-    traf-timed seen pos (b ∷ bs) l = at (which (b .kind)) (traf-timed seen (pos + b .size) bs (l .1))
+    traf-from : (t : Track) (seen : Seen) (pos : ℕ) (bs : List Box) → Fits bs → andThen (walk (trafWalk id) (record { track = t; seen = seen }) pos bs) ended ≡ fromKnown id t seen (known bs) h
+    unfolding walk andThen only among pick fromKnown fromFirst afterHead afterTime lacking clean shows fresh headedTrack reference
+    traf-from track.Fresh seen pos [] l = refl
+    traf-from (track.Headed r) seen pos [] l = refl
+    traf-from track.Timed seen pos [] l = refl
+    traf-from t seen pos (b ∷ bs) l = at t (which (b .kind)) (λ t' s. traf-from t' s (pos + b .size) bs (l .1))
       where
-        so : TrafSo
-        so = record { track = track.Timed; seen = seen }
-
-        at : Of (b .kind) → andThen (walk (trafWalk id) so (pos + b .size) bs) ended ≡ afterTime (known bs) (h seen) → andThen (walk (trafWalk id) so pos (b ∷ bs)) ended ≡ afterTime (known (b ∷ bs)) (h seen)
-        at (at-tfhd e) more = rw (box-tfhd so pos b bs e (l .0), known-yes b bs (rw e))
-        at (at-tfdt e) more = rw (box-tfdt so pos b bs e (l .0), known-yes b bs (rw e))
-        at (at-tfad e) more = rw (box-tfad so pos b bs e, known-yes b bs (rw e))
-        at (unknown e f g) more = rw (box-unknown so pos b bs e f g, known-no b bs e f g) more
-
-    traf-headed : (r : Bool) (seen : Seen) (pos : ℕ) (bs : List Box) → Fits bs →
-        andThen (walk (trafWalk id) (record { track = track.Headed r; seen = seen }) pos bs) ended ≡ afterHead r seen (known bs) h
-    unfolding walk andThen only among pick afterHead lacking clean shows fresh headedTrack reference
-    traf-headed r seen pos [] l = refl
-    traf-headed r seen pos (b ∷ bs) l = at (which (b .kind)) (traf-headed r seen (pos + b .size) bs (l .1))
-      where
-        so : TrafSo
-        so = record { track = track.Headed r; seen = seen }
-
-        at : Of (b .kind) → andThen (walk (trafWalk id) so (pos + b .size) bs) ended ≡ afterHead r seen (known bs) h → andThen (walk (trafWalk id) so pos (b ∷ bs)) ended ≡ afterHead r seen (known (b ∷ bs)) h
-        at (at-tfhd e) more = rw (box-tfhd so pos b bs e (l .0), known-yes b bs (rw e), e)
-        at (at-tfdt e) more =
-            rw (box-tfdt so pos b bs e (l .0), known-yes b bs (rw e), e)
+        at : (t : Track) → Of (b .kind) →
+            ((t' : Track) (s : Seen) → andThen (walk (trafWalk id) (record { track = t'; seen = s }) (pos + b .size) bs) ended ≡ fromKnown id t' s (known bs) h) →
+            andThen (walk (trafWalk id) (record { track = t; seen = seen }) pos (b ∷ bs)) ended ≡ fromKnown id t seen (known (b ∷ bs)) h
+        at t (unknown e f g) more = rw (box-unknown (record { track = t; seen = seen }) pos b bs e f g, known-no b bs e f g) (more t seen)
+        at track.Fresh (at-tfhd e) more =
+            rw (box-tfhd (trafSo0 seen) pos b bs e (l .0), known-yes b bs (rw e), e)
+            (then-assoc (tfhdTrack (b .body)) _ ended ∙ then-cong (tfhdTrack (b .body)) _ _ (λ v e'. more (track.Headed (eqb v id)) seen))
+        at (track.Headed r) (at-tfhd e) more = rw (box-tfhd (record { track = track.Headed r; seen = seen }) pos b bs e (l .0), known-yes b bs (rw e), e)
+        at track.Timed (at-tfhd e) more = rw (box-tfhd (record { track = track.Timed; seen = seen }) pos b bs e (l .0), known-yes b bs (rw e))
+        at track.Fresh (at-tfdt e) more = rw (box-tfdt (trafSo0 seen) pos b bs e (l .0), known-yes b bs (rw e), e)
+        at (track.Headed r) (at-tfdt e) more =
+            rw (box-tfdt (record { track = track.Headed r; seen = seen }) pos b bs e (l .0), known-yes b bs (rw e), e)
             (then-assoc (tfdtTime (b .body)) _ ended
             ∙ then-cong (tfdtTime (b .body)) _ _
             (λ v e'. then-pick (clean (fallFaults (seen .last) (timed r pos v))) _ ended
-            ∙ ap (λ o. pick (clean (fallFaults (seen .last) (timed r pos v))) o none) (traf-timed (saw seen r v) (pos + b .size) bs (l .1))
+            ∙ ap (λ o. pick (clean (fallFaults (seen .last) (timed r pos v))) o none) (more track.Timed (saw seen r v))
             ∙ climb-one seen r pos v (λ s. afterTime (known bs) (h s))))
-        at (at-tfad e) more = rw (box-tfad so pos b bs e, known-yes b bs (rw e), e)
-        at (unknown e f g) more = rw (box-unknown so pos b bs e f g, known-no b bs e f g) more
-
-    traf-fresh : (seen : Seen) (pos : ℕ) (bs : List Box) → Fits bs → andThen (walk (trafWalk id) (trafSo0 seen) pos bs) ended ≡ fromFirst id seen (known bs) h
-    unfolding walk andThen only among pick fromFirst lacking clean shows fresh headedTrack
-    traf-fresh seen pos [] l = refl
-    traf-fresh seen pos (b ∷ bs) l = at (which (b .kind)) (traf-fresh seen (pos + b .size) bs (l .1))
-      where
-        so : TrafSo
-        so = trafSo0 seen
-
-        at : Of (b .kind) → andThen (walk (trafWalk id) so (pos + b .size) bs) ended ≡ fromFirst id seen (known bs) h → andThen (walk (trafWalk id) so pos (b ∷ bs)) ended ≡ fromFirst id seen (known (b ∷ bs)) h
-        at (at-tfhd e) more =
-            rw (box-tfhd so pos b bs e (l .0), known-yes b bs (rw e), e)
-            (then-assoc (tfhdTrack (b .body)) _ ended ∙ then-cong (tfhdTrack (b .body)) _ _ (λ v e'. traf-headed (eqb v id) seen (pos + b .size) bs (l .1)))
-        at (at-tfdt e) more = rw (box-tfdt so pos b bs e (l .0), known-yes b bs (rw e), e)
-        at (at-tfad e) more = rw (box-tfad so pos b bs e, known-yes b bs (rw e), e)
-        at (unknown e f g) more = rw (box-unknown so pos b bs e f g, known-no b bs e f g) more
+        at track.Timed (at-tfdt e) more = rw (box-tfdt (record { track = track.Timed; seen = seen }) pos b bs e (l .0), known-yes b bs (rw e))
+        at track.Fresh (at-tfad e) more = rw (box-tfad (trafSo0 seen) pos b bs e, known-yes b bs (rw e), e)
+        at (track.Headed r) (at-tfad e) more = rw (box-tfad (record { track = track.Headed r; seen = seen }) pos b bs e, known-yes b bs (rw e), e)
+        at track.Timed (at-tfad e) more = rw (box-tfad (record { track = track.Timed; seen = seen }) pos b bs e, known-yes b bs (rw e))
 
 -- The boxes of a `traf`: rule 6. No box has a body longer than its size.
 pub traf-walk : {X : Type 0} (id q : ℕ) (seen : Seen) (pos : ℕ) (bs : List Box) (h : Seen → Option X) → Fits bs →
     andThen (walk (trafWalk id) (trafSo0 seen) pos bs) (λ so. pick (clean (lacking q (so .track))) (h (so .seen)) none)
     ≡ andThen (headAndTime id (only (tfhd ∷ tfdt ∷ tfad ∷ []) bs)) (λ ts. andThen (climb seen ts) h)
-traf-walk id q seen pos bs h l = traf-fresh id q h seen pos bs l ∙ sym (head-and-time id seen (only (tfhd ∷ tfdt ∷ tfad ∷ []) bs) h)
+unfolding fromKnown
+traf-walk id q seen pos bs h l = traf-from id q h track.Fresh seen pos bs l ∙ sym (head-and-time id seen (only (tfhd ∷ tfdt ∷ tfad ∷ []) bs) h)
