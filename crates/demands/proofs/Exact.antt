@@ -14,7 +14,7 @@ use Rattle.basics.specs.Choose.{pick}
 use Rattle.basics.specs.Bytes.{AllBytes}
 use Rattle.basics.proofs.Picks.{lt-or-ge, pick-no, pick-holds}
 use Rattle.basics.proofs.Options.{then-inv, pick-else}
-use Rattle.segment.specs.Constants.{limit, workBytes, recordNumbers, mostRecords}
+use Rattle.segment.specs.Constants.{limit}
 use Rattle.segment.specs.Boxes.{durations}
 use Rattle.segment.specs.Tree.{Leaf, Opened, covers, topIndex, segmentParts, segment}
 use Rattle.segment.specs.Parts.{At, One}

@@ -3,21 +3,19 @@ use Prim.Native.Nat.{ℕ, _+_, _-_, _<_}
 use mathlib.Core.Path.{_≡_, refl, ap, sym, _∙_}
 use mathlib.Core.List.{List, [], _∷_, _++_}
 use mathlib.Core.Option.{Option, some, none}
-use mathlib.Core.Logic.{_≢_}
 use native.Mathlib.Omega.{arith}
 use lib.ListN.{length}
 use lib.Dec.{eqb}
-use borrow.Author.Tests.{eqb-true, eq-eqb, ne-eqb}
+use borrow.Author.Tests.{eqb-true, ne-eqb}
 use Rattle.basics.specs.Choose.{pick, andThen}
-use Rattle.basics.proofs.Picks.{pick-yes, pick-no, pick-holds}
+use Rattle.basics.proofs.Picks.{pick-no, pick-holds}
 use Rattle.basics.proofs.Options.{then-cong, then-assoc, then-pick}
 use Rattle.segment.specs.Boxes.{boxes, cut, topKinds, without}
 use Rattle.segment.specs.Tree.{gapBoxes}
-use Rattle.machine.specs.Run.{Res, okay, fail, skipD}
+use Rattle.machine.specs.Run.{Res, okay}
 use Rattle.machine.specs.Heads.{boxEnd}
-use Rattle.machine.specs.Lists.{Next, boxD, again, over}
-use Rattle.machine.specs.declared.Header.{Header}
-use Rattle.state.specs.Flow.{Flow, Left, left}
+use Rattle.machine.specs.Lists.{Next, boxD}
+use Rattle.state.specs.Flow.{Flow, Left}
 use Rattle.machine.proofs.Readings.{Says, says-okay, SaysNext, says-boxes}
 use Rattle.state.specs.Stages.{gapNext, gapKind}
 use Rattle.state.specs.Stages as stages

@@ -2,20 +2,20 @@
 use Prim.Native.Nat.{ℕ, suc, _+_, _-_, _*_, _≤_, _<_}
 use mathlib.Core.Path.{_≡_, refl, ap, sym, _∙_}
 use mathlib.Core.List.{List, [], _∷_, _++_, append-assoc, append-nil}
-use mathlib.Core.Option.{Option, some, none}
-use mathlib.Core.Bool.{Bool, true, false, not, _&&_}
+use mathlib.Core.Option.{Option, none}
+use mathlib.Core.Bool.{not, _&&_}
 use mathlib.Core.Logic.{_⊎_, inl, inr}
 use native.Mathlib.Omega.{arith}
 use lib.Dec.{eqb, ltb}
-use lib.ListN.{length, take, drop, length-append, length-drop, take-append-drop}
+use lib.ListN.{length, take, drop, length-append, length-drop}
 use lib.Seq.{length-take-le, take-append-le, drop-append-le, drop-drop}
 use borrow.Author.Tests.{ltb-true, ltb-false, lt-ltb, le-ltb}
 use Rattle.basics.specs.Choose.{pick, andThen}
 use Rattle.basics.specs.Bytes.{numberFrom}
 use Rattle.basics.proofs.Picks.{lt-or-ge, pick-both, pick-if}
-use Rattle.basics.proofs.Options.{then-cong, then-assoc, then-inv, pick-else}
+use Rattle.basics.proofs.Options.{then-cong, then-assoc}
 use Rattle.segment.specs.Boxes.{Box, boxOf, firstBox}
-use Rattle.segment.proofs.Said.{Start, size4, kind4, size8, short, long, start, boxAt, first-start, start-fits, body-rest}
+use Rattle.segment.proofs.Said.{Start, size4, kind4, size8, start, boxAt, first-start, start-fits, body-rest}
 use Rattle.machine.specs.Faults.{unless}
 use Rattle.machine.specs.Run.{Res, okay, fail, fieldD, plain}
 use Rattle.machine.specs.Heads.{underEight, underSixteen, sizeFaults, header, boxEnd, sizedD, headD}

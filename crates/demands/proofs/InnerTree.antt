@@ -1,17 +1,16 @@
 -- An index entry, read by structure, comes to what the tree says of it, at every level.
-use Prim.Native.Nat.{ℕ, zero, suc, _+_, _-_, _*_, _%_, _≤_, _<_}
+use Prim.Native.Nat.{ℕ, zero, suc, _+_, _-_, _*_, _≤_, _<_}
 use mathlib.Core.Path.{_≡_, refl, ap, sym, subst, _∙_}
 use mathlib.Core.List.{List, _∷_, _++_}
 use mathlib.Core.Option.{Option, some, none}
-use mathlib.Core.Bool.{Bool, true, false, not, true≢false, _&&_, _||_}
+use mathlib.Core.Bool.{Bool, true, false, not}
 use native.Mathlib.Omega.{arith}
 use lib.Dec.{eqb, ltb}
 use lib.ListN.{length, drop, length-drop}
-use borrow.Author.Tests.{ne-eqb, eqb-true, lt-leb}
 use Rattle.basics.specs.Choose.{pick, andThen}
 use Rattle.basics.proofs.Tests.{same-test}
 use Rattle.basics.proofs.Options.{then-cong, then-assoc, then-pick}
-use Rattle.segment.specs.Constants.{entryBytes, styp, sidx, levels as mostLevels}
+use Rattle.segment.specs.Constants.{entryBytes, sidx}
 use Rattle.segment.specs.Boxes as tree
 use Rattle.segment.specs.Boxes.{Box, firstBox, sidxIndex, sizes, durations}
 use Rattle.segment.specs.Tree.{Opened, openIndex, Part, indexPart, suitsEntry, innerIndex, underIndex, tile}
@@ -25,7 +24,7 @@ use Rattle.state.specs.declared.Slot.{Slot}
 use Rattle.state.specs.declared.Index.{Index}
 use Rattle.state.specs.Flow.{Flow, Left, withNow, workBytes, levelBytes}
 use Rattle.basics.specs.Put.{putAll}
-use Rattle.state.specs.Rows.{is, bodyLength, topLengths, innerFaults}
+use Rattle.state.specs.Rows.{innerFaults}
 use Rattle.state.specs.Opening.{spanOf}
 use Rattle.state.specs.Sidx.{under, partOf}
 use Rattle.state.specs.Levels.{slotOf}
@@ -34,7 +33,6 @@ use Rattle.descent.specs.Sidx.{sidxD}
 use Rattle.descent.specs.Whole.{innerD, underD}
 use Rattle.demands.specs.Told.{upon, clean, headLength, headerOf, indexFrom, entryPart, withEntries, suits}
 use Rattle.demands.specs.Verdict.{Verdict, judge, told, enlist, Meets}
-use Rattle.demands.proofs.Upons.{clean-append, clean-shows}
 use Rattle.demands.proofs.Verdicts.{judge-after, judge-not, judge-told, told-then}
 use Rattle.demands.proofs.SegmentRun.{too-deep}
 use Rattle.demands.proofs.Shown.{kindOf, inner-shown}

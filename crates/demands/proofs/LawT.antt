@@ -3,7 +3,7 @@
 use Prim.Native.Nat.{ℕ, _+_, _-_, _*_, _≤_, _<_}
 use mathlib.Core.Path.{_≡_, refl, ap, sym, subst, _∙_}
 use mathlib.Core.Logic.{_≢_, _⊎_, ⊎-elim}
-use mathlib.Core.List.{List, [], _∷_, _++_, map, append-nil}
+use mathlib.Core.List.{List, [], _∷_, _++_, append-nil}
 use mathlib.Core.Option.{Option, some, none}
 use mathlib.Core.Bool.{Bool, true, false, not, _||_}
 use native.Mathlib.Omega.{arith}
@@ -39,7 +39,7 @@ use Rattle.descent.specs.Opening.{openingD}
 use Rattle.descent.specs.Whole.{gapD, underD, materialD, segmentD, outcome, readD, wholeD}
 use Rattle.demands.specs.Told.{indexFrom, entryPart, withEntries}
 use Rattle.demands.specs.Verdict.{Verdict, wrong, full, fine, judge, told, enlist, NotFine, Meets, Listing, seat, verdictBy, verdictOf}
-use Rattle.demands.proofs.Verdicts.{meets-same, meets-equal, meets-trans, judge-after, judge-cong, judge-not, judge-told, told-then, told-cong, told-meets, told-not, enlist-not, pick-not}
+use Rattle.demands.proofs.Verdicts.{meets-equal, meets-trans, judge-after, judge-cong, judge-not, judge-told, told-then, told-cong, told-meets, told-not, enlist-not, pick-not}
 use Rattle.demands.proofs.SegmentRun.{S, gap-consumed, top-run}
 use Rattle.demands.proofs.Stored.{put-length, holds}
 use Rattle.demands.proofs.SidxTree.{SidxFacts, sidx-facts}

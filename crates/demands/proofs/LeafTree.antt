@@ -10,8 +10,9 @@ use lib.Dec.{eqb, ltb}
 use lib.ListN.{length, drop, length-append}
 use lib.Seq.{take-append-le, drop-append-le}
 use borrow.Author.Tests.{not-true, eqb-true, eqb-false, eq-eqb, ne-eqb, ltb-false, lt-ltb, le-ltb}
+use Rattle.table.specs.Table.{room}
 use Rattle.basics.specs.Choose.{pick, andThen}
-use Rattle.basics.proofs.Picks.{pick-yes, pick-no, pick-with}
+use Rattle.basics.proofs.Picks.{pick-with}
 use Rattle.basics.proofs.Tests.{and-both, and-not}
 use Rattle.basics.proofs.Options.{absurd-some, then-cong, then-none, then-assoc, then-pick, then-inv, pick-some}
 use Rattle.segment.specs.Constants.{styp, sidx, moof, mdat, traf, tfhd, tfdt}
@@ -21,7 +22,7 @@ use Rattle.segment.specs.Tree.{firstTime}
 use Rattle.segment.proofs.Said.{field-rest}
 use Rattle.machine.specs.Faults.{refusal, shows, lowest, unless}
 use Rattle.machine.specs.Run.{Res, okay, fail, either, after, fieldD, plain}
-use Rattle.machine.specs.Heads.{boxEnd, headD, sizeFaults}
+use Rattle.machine.specs.Heads.{headD, sizeFaults}
 use Rattle.machine.specs.Lists.{boxD, boxesD}
 use Rattle.machine.specs.declared.Header.{Header}
 use Rattle.machine.proofs.Fields.{skip-whole}

@@ -5,14 +5,13 @@ use mathlib.Core.Path.{_≡_, refl, ap, sym, _∙_}
 use mathlib.Core.List.{List, [], _∷_, _++_}
 use mathlib.Core.Option.{Option, some, none}
 use mathlib.Core.Bool.{Bool, true, false, _&&_}
-use mathlib.Core.Logic.{_≢_}
 use native.Mathlib.Omega.{arith}
 use lib.Dec.{eqb}
 use lib.ListN.{length, drop, length-append, length-drop}
 use borrow.Author.Tests.{eq-eqb, ne-eqb}
 use Rattle.basics.specs.Choose.{pick, andThen}
 use Rattle.basics.proofs.Picks.{pick-yes, pick-no, pick-if, pick-with}
-use Rattle.basics.proofs.Options.{absurd-some, then-cong, then-assoc, then-inv, then-pick}
+use Rattle.basics.proofs.Options.{then-cong, then-assoc, then-pick}
 use Rattle.segment.specs.Boxes.{Box, firstBox, cut, boxes}
 use Rattle.machine.specs.Run.{Res, okay}
 use Rattle.machine.specs.Lists.{Next, again, over, Boxes, boxD, goOnD, boxesD}

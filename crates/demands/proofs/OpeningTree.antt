@@ -1,17 +1,16 @@
 -- The boxes up to the top index by structure say what rule 1 says of them.
 use Prim.Native.Nat.{ℕ, zero, suc, _+_, _-_, _≤_, _<_}
 use mathlib.Core.Path.{_≡_, refl, ap, sym, _∙_}
-use mathlib.Core.List.{List, [], _∷_, _++_}
+use mathlib.Core.List.{List, _++_}
 use mathlib.Core.Option.{Option, some, none}
-use mathlib.Core.Bool.{Bool, true, false, not, _&&_, _||_}
+use mathlib.Core.Bool.{Bool, true, false, not, _||_}
 use native.Mathlib.Omega.{arith}
 use lib.ListN.{length, drop, length-drop}
 use lib.Dec.{eqb, ltb, leb}
-use borrow.Author.Tests.{eqb-true, ltb-true, ltb-false}
 use Rattle.basics.specs.Choose.{pick, andThen}
 use Rattle.basics.proofs.Picks.{pick-if, pick-both}
-use Rattle.basics.proofs.Options.{absurd-some, then-cong, then-assoc, then-inv, pick-some, pick-else}
-use Rattle.segment.specs.Constants.{limit, timeLimit, styp, sidx, moof, mdat}
+use Rattle.basics.proofs.Options.{then-cong, then-assoc}
+use Rattle.segment.specs.Constants.{limit, timeLimit, styp, sidx}
 use Rattle.segment.specs.Boxes.{Index as BoxesIndex, Box, firstBox, topKinds, among, stypBrands, sidxIndex}
 use Rattle.segment.specs.Tree.{openIndex, firstIndex, topIndex}
 use Rattle.segment.proofs.Said.{FirstBox, first-box}
@@ -25,13 +24,13 @@ use Rattle.machine.proofs.Fields.{skip-whole, skip-short}
 use Rattle.state.specs.declared.Span.{Span}
 use Rattle.state.specs.declared.Index.{Index}
 use Rattle.state.specs.Flow.{Flow, Left, left}
-use Rattle.state.specs.Rows.{is, bodyLength, topLengths, openingFaults}
-use Rattle.state.specs.Sidx.{Place, topmost, sumFaults}
+use Rattle.state.specs.Rows.{is, bodyLength, openingFaults}
+use Rattle.state.specs.Sidx.{topmost, sumFaults}
 use Rattle.state.specs.Opening.{Opened, passed, indexed, spanOf, openingBox, closeOpening, opening}
 use Rattle.descent.specs.Sidx.{sidxD}
 use Rattle.descent.specs.Opening.{skipTo, stypD, openingBodyD, openingD}
-use Rattle.demands.specs.Told.{upon, clean, headLength, headerOf, indexFrom, withEntries, suits}
-use Rattle.demands.proofs.Upons.{upon-either, upon-after, clean-append, clean-shows}
+use Rattle.demands.specs.Told.{upon, clean, headLength, headerOf, indexFrom, withEntries}
+use Rattle.demands.proofs.Upons.{upon-either, upon-after, clean-shows}
 use Rattle.demands.proofs.HeadTree.{box-open}
 use Rattle.demands.proofs.SidxTree.{sidx-fitting, sidx-cut, sidx-facts, suits-topmost}
 use Rattle.demands.proofs.Shown.{kindOf, first-shown, later-shown}

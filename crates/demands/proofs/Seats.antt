@@ -1,7 +1,7 @@
 -- Leaves listed one after the other, whose decode times never fall, come to what their list comes to.
 use Prim.Native.Nat.{ℕ, zero, suc, _+_, _*_, _≤_}
 use mathlib.Core.Path.{_≡_, refl, ap, _∙_}
-use mathlib.Core.List.{List, [], _∷_, _++_, map}
+use mathlib.Core.List.{List, [], _∷_, _++_}
 use mathlib.Core.Option.{some, none}
 use mathlib.Core.Bool.{Bool, true, false, true≢false, false≢true}
 use native.Mathlib.Omega.{arith}
@@ -60,7 +60,7 @@ unfolding enlist seat timesIn leavesIn told listed
 enlist-seat [] f e = refl
 enlist-seat (leafPart l ts ∷ ps) f e =
     let c = climb-on (seen0 (f .last)) ts (timesIn ps) e in
-    ap (pick (noRoom (f .leaves) (f .table)) (full (l .position))) (rw (c .climbed) (enlist-seat ps (listed f (rowOf l) (l .start + l .duration) (c .top .last)) (c .rest)))
+    ap (pick (noRoom (f .leaves) (f .table)) (full (l .position))) (rw (c .climbed) (enlist-seat ps (listed f (recordOf l) (l .start + l .duration) (c .top .last)) (c .rest)))
 enlist-seat (indexPart p s ∷ ps) f e = enlist-seat ps f e
 
 pub enlist-falls : {X : Type 0} (ps : List Part) (f : Flow) (k : Flow → Verdict X) → neverFall (f .last) (timesIn ps) ≡ false → NotFine (enlist ps f k)
@@ -68,7 +68,7 @@ unfolding enlist timesIn neverFall listed
 enlist-falls [] f k e = absurd (true≢false e)
 enlist-falls (leafPart l ts ∷ ps) f k e =
     pick-not (noRoom (f .leaves) (f .table)) (full (l .position)) _ tt
-    (told-not (climb (seen0 (f .last)) ts) _ (λ s c. enlist-falls ps (listed f (rowOf l) (l .start + l .duration) (s .last)) k (climb-off (seen0 (f .last)) ts (timesIn ps) e s c)))
+    (told-not (climb (seen0 (f .last)) ts) _ (λ s c. enlist-falls ps (listed f (recordOf l) (l .start + l .duration) (s .last)) k (climb-off (seen0 (f .last)) ts (timesIn ps) e s c)))
 enlist-falls (indexPart p s ∷ ps) f k e = enlist-falls ps f k e
 
 -- The room is a table's length, which no record changes.

@@ -1,11 +1,12 @@
 -- What a header shows by its type where it stands: before the top index, in the gap, in a leaf, or at the start of an index entry.
-use Prim.Native.Nat.{ℕ, _%_, _<_}
+use Prim.Native.Nat.{ℕ, _<_}
 use mathlib.Core.Path.{_≡_, refl}
 use mathlib.Core.List.{[], _∷_}
 use mathlib.Core.Option.{Option, none}
-use mathlib.Core.Bool.{Bool, true, false, not, _&&_, _||_, and-true, and-false}
+use mathlib.Core.Bool.{Bool, true, false, not, and-true, and-false}
 use lib.Dec.{eqb, ltb}
 use borrow.Author.Tests.{eqb-true, lt-leb}
+use Rattle.table.specs.Table.{room}
 use Rattle.basics.specs.Choose.{pick}
 use Rattle.segment.specs.Constants.{styp, sidx, moof, mdat, levels}
 use Rattle.segment.specs.Boxes.{topKinds, among}

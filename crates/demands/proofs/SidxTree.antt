@@ -34,7 +34,7 @@ use Rattle.state.specs.declared.Sums.{Sums}
 use Rattle.state.specs.declared.Index.{Index}
 use Rattle.state.specs.declared.EntryPart.{EntryPart}
 use Rattle.state.specs.declared.EntryPart.the-variants as entry
-use Rattle.state.specs.Flow.{Flow, Left, left, withWork, levelBytes}
+use Rattle.state.specs.Flow.{Flow, Left, left, withWork}
 use Rattle.basics.specs.Put.{putAll}
 use Rattle.state.specs.Sidx.{Place, topmost, under, partOf, sidxVersionFaults, idFaults, scaleFaults, timeFaults, offsetFaults, countFaults, sumFaults, wideMore, indexOf, sizeOf, entrySizeFaults, plusSize, plusDuration, nextEntry, wordPlace, numberPlace, keepByte}
 use Rattle.descent.specs.Sidx.{closeD, entryD, entriesD, countedD, countD, reservedD, offsetD, timeD, scaleD, idD, flagsD, versionD, sidxD}

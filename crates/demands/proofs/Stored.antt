@@ -1,25 +1,23 @@
 -- Entries in the work area: stored, read back, and left alone by what is stored later.
 use Prim.Native.Nat.{ℕ, zero, suc, _+_, _-_, _*_, _/_, _%_, _≤_, _<_, min}
 use mathlib.Core.Path.{_≡_, refl, ap, sym, _∙_}
-use mathlib.Core.Logic.{_≢_}
 use mathlib.Core.List.{List, [], _∷_, _++_, append-assoc}
 use mathlib.Core.Option.{some, none}
 use mathlib.Core.Bool.{Bool, true, false, not}
 use native.Mathlib.Omega.{arith}
-use lib.Dec.{eqb, ltb, leb}
+use lib.Dec.{eqb, leb}
 use lib.ListN.{length, getD, take, drop, set, length-append, length-take, length-drop, take-append-drop}
 use lib.Seq.{sets, length-sets, sets-eq, ext-getD, getD-take, getD-drop, getD-set-other, take-append-le, drop-append-le, drop-append-add, drop-drop, length-take-le}
-use borrow.Author.Tests.{leb-true, leb-false, eqb-false, eq-eqb, ne-eqb, le-ltb}
+use borrow.Author.Tests.{leb-true, leb-false, eq-eqb, ne-eqb}
 use Rattle.table.specs.Table.{room}
 use Rattle.basics.specs.Choose.{pick, andThen}
 use Rattle.basics.specs.Bytes.{number}
-use Rattle.basics.proofs.Picks.{pick-no}
 use Rattle.basics.proofs.Options.{then-inv, pick-else}
 use Rattle.segment.specs.Constants.{entryBytes, typeBit}
-use Rattle.segment.specs.Boxes.{field, entryOf, entriesOf}
+use Rattle.segment.specs.Boxes.{entryOf, entriesOf}
 use Rattle.segment.specs.Boxes as tree
 use Rattle.segment.proofs.Said.{field-some}
-use Rattle.state.specs.Flow.{putAll}
+use Rattle.basics.specs.Put.{putAll}
 use Rattle.state.specs.Levels.{Entry, wordAt, entryAt}
 
 -- Two work areas of one length that are the same below a place.

@@ -1,10 +1,9 @@
 -- The entries of an index, read by structure, come to what the tree says of them.
 use Prim.Native.Nat.{ℕ, suc, _+_, _-_, _*_, _≤_, _<_}
 use mathlib.Core.Path.{_≡_, refl, ap, sym, subst, _∙_}
-use mathlib.Core.Logic.{_≢_}
 use mathlib.Core.List.{List, [], _∷_, _++_, append-assoc}
 use mathlib.Core.Option.{Option, some, none}
-use mathlib.Core.Bool.{Bool, true, false, not, true≢false}
+use mathlib.Core.Bool.{Bool, true, false, not}
 use native.Mathlib.Omega.{arith}
 use lib.Dec.{eqb}
 use lib.ListN.{length, take, drop, take-append-drop, length-drop}
@@ -31,10 +30,10 @@ use Rattle.state.specs.Levels.{Entry, entryAt, altered, slotOf, took}
 use Rattle.state.specs.Stages.{innerLevel, leafRecord}
 use Rattle.descent.specs.Leaf.{leafD}
 use Rattle.descent.specs.Whole.{Under, innerD, slotD, readBackD, entryD, entriesD}
-use Rattle.demands.specs.Told.{upon, climb}
-use Rattle.lookup.specs.Rows.{rowOf}
-use Rattle.demands.specs.Verdict.{Verdict, wrong, full, fine, judge, told, seen0, enlist, NotFine, Meets}
-use Rattle.demands.proofs.Verdicts.{meets-same, meets-equal, meets-trans, judge-after, judge-cong, judge-not, judge-told, told-then, told-cong, told-meets, enlist-meets, enlist-now, enlist-both}
+use Rattle.demands.specs.Told.{climb}
+use Rattle.covering.specs.Records.{recordOf}
+use Rattle.demands.specs.Verdict.{Verdict, judge, told, seen0, enlist, Meets}
+use Rattle.demands.proofs.Verdicts.{meets-equal, meets-trans, judge-after, judge-not, judge-told, told-then, told-cong, told-meets, enlist-meets, enlist-now, enlist-both}
 use Rattle.demands.proofs.Stored.{Alike, alike-trans, alike-refl, entryFrom, Holds, holds-alike}
 use Rattle.demands.proofs.LeafTree.{leaf-tree, leaf-first, leaf-full, leaf-no-room}
 
@@ -103,12 +102,12 @@ module _ (X : Type 0) (top : Top) (depth : ℕ) where
     leaf-told ts = enlist (leafPart (leafOf n (f .now) e ts) ts ∷ []) g (λ g'. K (withNow g' (f .now + e .duration)))
 
     listed-like : (ts : List ℕ) (s : Seen) → s .first ≡ firstTime ts →
-        Meets (leaf-out s f (slot .end) ys) (K (withNow (listed g (rowOf (leafOf n (f .now) e ts)) (f .now + e .duration) (s .last)) (f .now + e .duration)))
+        Meets (leaf-out s f (slot .end) ys) (K (withNow (listed g (recordOf (leafOf n (f .now) e ts)) (f .now + e .duration) (s .last)) (f .now + e .duration)))
     unfolding listed
     listed-like ts s q =
         let e1 : n + e .size - n ≡ e .size = omega arith in
         let e2 : f .now + e .duration - f .now ≡ e .duration = omega arith in
-        follows (listed f (leafRow slot (f .now) (s .first)) (slot .until) (s .last)) (withNow (listed g (rowOf (leafOf n (f .now) e ts)) (f .now + e .duration) (s .last)) (f .now + e .duration)) refl (alike-refl _ _)
+        follows (listed f (leafRecord slot (f .now) (s .first)) (slot .until) (s .last)) (withNow (listed g (recordOf (leafOf n (f .now) e ts)) (f .now + e .duration) (s .last)) (f .now + e .duration)) refl (alike-refl _ _)
         (record { leaves = ap (λ (k : ℕ). suc k) (lk .leaves); now = refl; last = refl; table = rw (e1, e2, q, lk .table, lk .leaves) })
 
     same-room : (t : Bool) → noRoom (f .leaves) (f .table) ≡ t → noRoom (g .leaves) (g .table) ≡ t

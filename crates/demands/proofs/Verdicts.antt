@@ -1,17 +1,13 @@
 -- Laws of verdicts.
 use Prim.Native.Nat.{ℕ, _+_}
 use mathlib.Core.Path.{_≡_, refl, ap, sym}
-use mathlib.Core.Logic.{_≢_}
 use mathlib.Core.List.{List, [], _∷_, _++_}
 use mathlib.Core.Option.{Option, some, none}
 use mathlib.Core.Bool.{Bool, true, false}
 use lib.Dec.{eqb}
-use borrow.Author.Tests.{ne-eqb}
 use Rattle.basics.specs.Choose.{pick, andThen}
-use Rattle.basics.proofs.Picks.{pick-no}
 use Rattle.segment.specs.Tree.{Part, leafPart, indexPart}
 use Rattle.machine.specs.Run.{Res, okay, fail, cut, either, after}
-use Rattle.machine.specs.declared.Refusal.{Refusal}
 use Rattle.state.specs.Flow.{Flow, Left, withNow, listed}
 use Rattle.state.specs.Rows.{noRoom}
 use Rattle.demands.specs.Told.{upon, climb}
@@ -105,7 +101,7 @@ pub enlist-append : {X : Type 0} (ps qs : List Part) (f : Flow) (k : Flow → Ve
 unfolding enlist
 enlist-append [] qs f k = refl
 enlist-append (leafPart l ts ∷ ps) qs f k =
-    ap (pick (noRoom (f .leaves) (f .table)) (full (l .position))) (told-cong (climb (seen0 (f .last)) ts) _ _ (λ s e. enlist-append ps qs (listed f (rowOf l) (l .start + l .duration) (s .last)) k))
+    ap (pick (noRoom (f .leaves) (f .table)) (full (l .position))) (told-cong (climb (seen0 (f .last)) ts) _ _ (λ s e. enlist-append ps qs (listed f (recordOf l) (l .start + l .duration) (s .last)) k))
 enlist-append (indexPart p s ∷ ps) qs f k = enlist-append ps qs f k
 
 pub enlist-meets : {X : Type 0} (ps : List Part) (f : Flow) (k k' : Flow → Verdict X) → ((g : Flow) → g .work ≡ f .work → Meets (k g) (k' g)) → Meets (enlist ps f k) (enlist ps f k')
@@ -113,7 +109,7 @@ unfolding enlist listed
 enlist-meets [] f k k' h = h f refl
 enlist-meets (leafPart l ts ∷ ps) f k k' h =
     pick-meets (noRoom (f .leaves) (f .table)) (full (l .position)) _ _
-    (told-meets (climb (seen0 (f .last)) ts) _ _ (λ s e. enlist-meets ps (listed f (rowOf l) (l .start + l .duration) (s .last)) k k' h))
+    (told-meets (climb (seen0 (f .last)) ts) _ _ (λ s e. enlist-meets ps (listed f (recordOf l) (l .start + l .duration) (s .last)) k k' h))
 enlist-meets (indexPart p s ∷ ps) f k k' h = enlist-meets ps f k k' h
 
 pub enlist-not : {X : Type 0} (ps : List Part) (f : Flow) (k : Flow → Verdict X) → ((g : Flow) → NotFine (k g)) → NotFine (enlist ps f k)
@@ -121,7 +117,7 @@ unfolding enlist
 enlist-not [] f k h = h f
 enlist-not (leafPart l ts ∷ ps) f k h =
     pick-not (noRoom (f .leaves) (f .table)) (full (l .position)) _ tt
-    (told-not (climb (seen0 (f .last)) ts) _ (λ s e. enlist-not ps (listed f (rowOf l) (l .start + l .duration) (s .last)) k h))
+    (told-not (climb (seen0 (f .last)) ts) _ (λ s e. enlist-not ps (listed f (recordOf l) (l .start + l .duration) (s .last)) k h))
 enlist-not (indexPart p s ∷ ps) f k h = enlist-not ps f k h
 
 -- the time at which the list begins is not looked at

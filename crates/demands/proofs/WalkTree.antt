@@ -1,20 +1,20 @@
 -- The boxes of a list walked with what is known of it say what the tree says of them.
-use Prim.Native.Nat.{ℕ, zero, suc, _+_, _-_, _%_, _≤_, _<_}
+use Prim.Native.Nat.{ℕ, zero, suc, _+_, _-_, _≤_, _<_}
 use mathlib.Core.Path.{_≡_, refl, ap, sym, _∙_}
 use mathlib.Core.List.{List, [], _∷_, _++_}
 use mathlib.Core.Option.{Option, some, none}
 use mathlib.Core.Bool.{Bool, true, false, not, _&&_, _||_, Bool·not-not}
 use native.Mathlib.Omega.{arith}
 use lib.Dec.{eqb, ltb}
-use lib.ListN.{length, take, drop, length-take, length-drop}
-use borrow.Author.Tests.{eqb-true, ne-eqb, ltb-true, ltb-false, lt-ltb}
+use lib.ListN.{length, drop}
+use borrow.Author.Tests.{eqb-true, ne-eqb, ltb-true, lt-ltb}
+use Rattle.table.specs.Table.{room}
 use Rattle.basics.specs.Choose.{pick, andThen}
-use Rattle.basics.specs.Bytes.{number}
 use Rattle.basics.proofs.Picks.{pick-yes, pick-no, pick-if, pick-both}
 use Rattle.basics.proofs.Options.{absurd-some, then-cong, then-none, then-assoc, then-some, then-pick, then-inv, pick-else, pick-then}
-use Rattle.segment.specs.Constants.{styp, sidx, moof, mdat, traf, tfhd, tfdt, tfad}
-use Rattle.segment.specs.Boxes.{topKinds, provided, Field, field, Box, boxOf, firstBox, cut, among, only, without, timeBytes, tfhdTrack, tfdtTime}
-use Rattle.segment.specs.Leaves.{moofFirst, headAndTime, trafTimes, gather, moofTimes, nonEmpty, neverFall}
+use Rattle.segment.specs.Constants.{styp, sidx, moof, traf, tfhd, tfdt, tfad}
+use Rattle.segment.specs.Boxes.{topKinds, provided, field, Box, firstBox, cut, among, only, without, timeBytes, tfhdTrack, tfdtTime}
+use Rattle.segment.specs.Leaves.{moofFirst, headAndTime, trafTimes, gather, moofTimes, nonEmpty}
 use Rattle.segment.specs.Tree.{firstTime}
 use Rattle.segment.proofs.Said.{field-rest, first-box}
 use Rattle.machine.specs.Faults.{shows}
@@ -26,7 +26,7 @@ use Rattle.state.specs.declared.Track.the-variants as track
 use Rattle.state.specs.declared.TrafSo.{TrafSo}
 use Rattle.state.specs.declared.LeafSo.{LeafSo}
 use Rattle.state.specs.Flow.{Flow, left}
-use Rattle.state.specs.Rows.{is, bodyLength, topLengths, gapFaults, leafFaults, noRoom, trafFaults, fresh, headedTrack}
+use Rattle.state.specs.Rows.{is, bodyLength, leafFaults, noRoom, trafFaults, fresh, headedTrack}
 use Rattle.state.specs.Traf.{timed, fallFaults, reference, saw, trafNow, trafSo0, lacking}
 use Rattle.state.specs.Leaf.{Passed, skipped, seeing, seenNow, leafNow, leafSo0, leafLacks}
 use Rattle.demands.specs.Told.{clean, climb, headerOf}

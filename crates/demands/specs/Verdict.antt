@@ -44,7 +44,7 @@ unfoldable pub enlist : {X : Type 0} → List Part → Flow → (Flow → Verdic
 enlist [] f k = k f
 enlist (leafPart l times ∷ ps) f k =
     pick (noRoom (f .leaves) (f .table)) (full (l .position))
-    (told (climb (seen0 (f .last)) times) (λ s. enlist ps (listed f (rowOf l) (l .start + l .duration) (s .last)) k))
+    (told (climb (seen0 (f .last)) times) (λ s. enlist ps (listed f (recordOf l) (l .start + l .duration) (s .last)) k))
 enlist (indexPart position size ∷ ps) f k = enlist ps f k
 
 -- A reading meets what the tree says: the same, but where the tree says wrong it may be full as well.

@@ -2,12 +2,12 @@
 -- bytes of each read as it says.
 use Prim.Native.Nat.{ℕ, _+_, _-_, _≤_, _<_}
 use mathlib.Core.Path.{_≡_, refl, sym, ap, _∙_}
-use mathlib.Core.List.{List, [], _∷_, _++_, append-assoc, append-nil}
+use mathlib.Core.List.{List, [], _++_, append-assoc, append-nil}
 use mathlib.Core.Option.{some}
 use native.Mathlib.Omega.{arith}
-use lib.ListN.{length, take, drop, length-append, length-drop, take-append-drop}
+use lib.ListN.{length, take, drop, length-append}
 use lib.Seq.{take-at, drop-at, drop-append-le, drop-drop}
-use Rattle.segment.specs.Boxes.{firstBox, sizes}
+use Rattle.segment.specs.Boxes.{firstBox}
 use Rattle.segment.specs.Leaves.{leafTimes}
 use Rattle.segment.specs.Tree.{Opened, topIndex, Part, segmentParts}
 use Rattle.segment.specs.Parts.{At, One, positionOf, sizeOf, Holds, materialStart, ReadsAs}

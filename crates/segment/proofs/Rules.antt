@@ -2,7 +2,7 @@
 use Prim.Native.Nat.{ℕ, zero, suc, _+_, _-_, _*_, _/_, _%_, _≤_, _<_}
 use mathlib.Core.Path.{_≡_, refl, sym, ap, _∙_, subst}
 use mathlib.Core.List.{List, [], _∷_, _++_}
-use mathlib.Core.Option.{Option, some, Option·some-injective, Option·none-ne-some}
+use mathlib.Core.Option.{some, Option·some-injective, Option·none-ne-some}
 use mathlib.Core.Bool.{Bool, true, false, true≢false}
 use mathlib.Core.Logic.{_≢_}
 use native.Mathlib.Omega.{arith}
@@ -15,7 +15,7 @@ use Rattle.basics.specs.Bytes.{number}
 use Rattle.basics.proofs.Picks.{pick-yes, pick-no}
 use Rattle.basics.proofs.Options.{then-inv, pick-some, pick-else}
 use Rattle.segment.specs.Constants.{styp, sidx, moof, mdat, tfhd, tfdt, tfad}
-use Rattle.segment.specs.Boxes.{unless, among, Field, field, words, Box, firstBox, boxes, topKinds, only, without, stypBrands, sidxIndex, tfhdTrack, tfdtTime}
+use Rattle.segment.specs.Boxes.{unless, among, Field, field, words, Box, firstBox, boxes, topKinds, only, without, stypBrands, tfhdTrack, tfdtTime}
 use Rattle.segment.specs.Leaves.{moofFirst, leafBoxes, headAndTime, trafTimes, moofTimes, gather, nonEmpty, leafTimes, neverFall}
 use Rattle.segment.specs.Tree.{Opened, openIndex, firstIndex, topIndex, gapBoxes, material, firstTime}
 use Rattle.segment.specs.Parts.{At, One, Stands}

@@ -16,7 +16,7 @@ use Rattle.basics.proofs.Picks.{lt-or-ge, pick-no, pick-both, pick-if}
 use Rattle.basics.proofs.Options.{then-inv, pick-some, pick-else}
 use Rattle.basics.proofs.Tests.{and-both}
 use Rattle.segment.specs.Constants.{sidx}
-use Rattle.segment.specs.Boxes.{Field, field, Box, boxOf, firstBox, sizes, durations, Index, sidxIndex}
+use Rattle.segment.specs.Boxes.{Field, field, Box, boxOf, firstBox, sizes, durations, sidxIndex}
 use Rattle.segment.specs.Tree.{Opened, openIndex, gapBoxes, material, suitsEntry, innerIndex}
 
 -- what follows an answer

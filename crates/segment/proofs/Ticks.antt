@@ -1,15 +1,15 @@
 -- Each tick from the stated start up to the start plus the sum of the top durations belongs to exactly one leaf, and no other tick to any.
 use Prim.Native.Nat.{ℕ, _+_, _≤_, _<_}
-use mathlib.Core.Path.{_≡_, refl, sym, ap, _∙_}
+use mathlib.Core.Path.{_≡_, refl, ap}
 use mathlib.Core.List.{List, [], _∷_, _++_}
-use mathlib.Core.Option.{some, Option·some-injective}
+use mathlib.Core.Option.{some}
 use mathlib.Core.Bool.{true}
 use native.Mathlib.Omega.{arith}
 use Rattle.segment.specs.Boxes.{durations}
 use Rattle.segment.specs.Tree.{Opened, topIndex, Leaf, covers, Part, leafPart, indexPart, leavesIn, segment}
 use Rattle.segment.specs.Parts.{At, One}
 use Rattle.segment.proofs.Stands.{parts-made, parts-listed}
-use Rattle.segment.proofs.Spans.{EndToEnd, Has, end-on, inside, one-has, one-alike}
+use Rattle.segment.proofs.Spans.{Has, end-on, inside, one-has, one-alike}
 use Rattle.segment.proofs.Tiles.{Fact, Grows, made-by}
 use Rattle.segment.proofs.Edges.{startOf, durationOf, Follow, covered-between, between-covered}
 
