@@ -18,20 +18,11 @@ returns : tie.Need-returns
 unfolding altered
 returns c = sym (or-first _ _ _ (eq-eqb _ _ (c .if1 .taken)))
 
-sum-over-requires : tie.Need-sum-over-requires
-sum-over-requires c κs = search needs
-
 returns-2 : tie.Need-returns-2
 returns-2 c =
     let at-sum-over = c .before in
     let a = at-sum-over .before .before .before .args in
     late (a .l) (entryOf (a .e)) (a .at) (a .n) (sym (at-sum-over .sum-over .ensures) ∙ c .if2 .taken)
-
-sum-is-requires : tie.Need-sum-is-requires
-sum-is-requires c κs = search needs
-
-fills-requires : tie.Need-fills-requires
-fills-requires c κs = search needs
 
 returns-3 : tie.Need-returns-3
 unfolding altered
@@ -45,9 +36,6 @@ returns-3 c =
     ap not (c .fills .ensures)
     ∙ sym (pick-yes _ _ _ (ap (λ (k : ℕ). eqb k (a .l .count)) (sym (add-one (a .l .next))) ∙ sym (at-sum-is .sum-is .ensures) ∙ test3 .if3 .taken))
     ∙ sym (or-third _ _ _ (ne-eqb _ _ (test1 .if1 .left)) (sym (at-sum-over .sum-over .ensures) ∙ test2 .if2 .left))
-
-sum-reaches-requires : tie.Need-sum-reaches-requires
-sum-reaches-requires c κs = search needs
 
 returns-4 : tie.Need-returns-4
 unfolding altered
@@ -65,12 +53,4 @@ returns-4 c =
 pub altered-spec : {M : Type 1} → statement M
 altered-spec =
     tie.close
-    (tie.spec
-    returns
-    sum-over-requires
-    returns-2
-    sum-is-requires
-    fills-requires
-    returns-3
-    sum-reaches-requires
-    returns-4)
+    (tie.spec returns (search needs) returns-2 (search needs) (search needs) returns-3 (search needs) returns-4)

@@ -5,18 +5,6 @@ use borrow.Author.Needs.{needs}
 use Rattle.levels.proofs.depth.Statement.{statement}
 use Rattle.levels.proofs.depth.Tie as tie
 
-enum-told : tie.Need-enum-told
-enum-told c = search needs
-
-enum-told-2 : tie.Need-enum-told-2
-enum-told-2 c = search needs
-
-enum-told-3 : tie.Need-enum-told-3
-enum-told-3 c = search needs
-
-enum-told-4 : tie.Need-enum-told-4
-enum-told-4 c = search needs
-
 returns : tie.Need-returns
 unfolding depth
 returns c = sym (ap depth (c .enum-told .given .1))
@@ -36,4 +24,4 @@ returns-4 c = sym (ap depth (c .enum-told4 .given .1))
 pub depth-spec : {M : Type 1} → statement M
 depth-spec =
     tie.close
-    (tie.spec enum-told enum-told-2 enum-told-3 enum-told-4 returns returns-2 returns-3 returns-4)
+    (tie.spec (search needs) (search needs) (search needs) (search needs) returns returns-2 returns-3 returns-4)

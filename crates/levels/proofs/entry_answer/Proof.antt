@@ -10,9 +10,6 @@ use borrow.Author.Needs.{needs}
 use Rattle.levels.proofs.entry_answer.Statement.{statement}
 use Rattle.levels.proofs.entry_answer.Tie as tie
 
-altered-requires : tie.Need-altered-requires
-altered-requires c κs = search needs
-
 returns : tie.Need-returns
 returns c = sym (pick-yes _ _ _ (sym (c .before .altered .ensures) ∙ c .if1 .taken))
 
@@ -31,4 +28,4 @@ returns-2 c =
     ∙ sym (pick-no _ _ _ (sym (at-altered .altered .ensures) ∙ test .if1 .left))
 
 pub entry-answer-spec : {M : Type 1} → statement M
-entry-answer-spec = tie.close (tie.spec altered-requires returns slot-of-requires returns-2)
+entry-answer-spec = tie.close (tie.spec (search needs) returns slot-of-requires returns-2)

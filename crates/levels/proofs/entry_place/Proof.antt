@@ -7,14 +7,8 @@ use borrow.Author.Needs.{needs}
 use Rattle.levels.proofs.entry_place.Statement.{statement}
 use Rattle.levels.proofs.entry_place.Tie as tie
 
-depth-requires : tie.Need-depth-requires
-depth-requires c κs = search needs
-
 sub-around : tie.Need-sub-around
 sub-around c = omega (arith, c .depth .ensures, depth-most (c .before .args .ls) .0)
-
-inmost-requires : tie.Need-inmost-requires
-inmost-requires c κs = search needs
 
 mul-result : tie.Need-mul-result
 mul-result c =
@@ -53,4 +47,4 @@ returns c = omega (arith, c .before .before .depth .ensures, ap (λ (l : Level).
 pub entry-place-spec : {M : Type 1} → statement M
 entry-place-spec =
     tie.close
-    (tie.spec depth-requires sub-around inmost-requires mul-result mul-result-2 add-result returns)
+    (tie.spec (search needs) sub-around (search needs) mul-result mul-result-2 add-result returns)

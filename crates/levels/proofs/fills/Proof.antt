@@ -7,12 +7,6 @@ use borrow.Author.Needs.{needs}
 use Rattle.levels.proofs.fills.Statement.{statement}
 use Rattle.levels.proofs.fills.Tie as tie
 
-sum-is-requires : tie.Need-sum-is-requires
-sum-is-requires c κs = search needs
-
-sum-is-requires-2 : tie.Need-sum-is-requires-2
-sum-is-requires-2 c κs = search needs
-
 returns : tie.Need-returns
 returns c =
     let test = c .before in
@@ -27,4 +21,4 @@ returns-2 c =
     sym (ap (λ (t : Bool). t && eqb (a .at + a .e .duration) (a .l .until)) (sym (at-sum-is .sum-is .ensures) ∙ c .if1 .left))
 
 pub fills-spec : {M : Type 1} → statement M
-fills-spec = tie.close (tie.spec sum-is-requires sum-is-requires-2 returns returns-2)
+fills-spec = tie.close (tie.spec (search needs) (search needs) returns returns-2)

@@ -5,18 +5,6 @@ use borrow.Author.Needs.{needs}
 use Rattle.levels.proofs.inmost.Statement.{statement}
 use Rattle.levels.proofs.inmost.Tie as tie
 
-enum-known-ls : tie.Need-enum-known-ls
-enum-known-ls c = search needs
-
-enum-known-ls-2 : tie.Need-enum-known-ls-2
-enum-known-ls-2 c = search needs
-
-enum-known-ls-3 : tie.Need-enum-known-ls-3
-enum-known-ls-3 c = search needs
-
-enum-known-ls-4 : tie.Need-enum-known-ls-4
-enum-known-ls-4 c = search needs
-
 returns : tie.Need-returns
 unfolding inmost
 returns c = sym (ap inmost (c .before .ls .given .1))
@@ -36,12 +24,4 @@ returns-4 c = sym (ap inmost (c .before .ls4 .given .1))
 pub inmost-spec : {M : Type 1} → statement M
 inmost-spec =
     tie.close
-    (tie.spec
-    enum-known-ls
-    enum-known-ls-2
-    enum-known-ls-3
-    enum-known-ls-4
-    returns
-    returns-2
-    returns-3
-    returns-4)
+    (tie.spec (search needs) (search needs) (search needs) (search needs) returns returns-2 returns-3 returns-4)

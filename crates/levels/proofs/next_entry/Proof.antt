@@ -8,9 +8,6 @@ use borrow.Author.Needs.{needs}
 use Rattle.levels.proofs.next_entry.Statement.{statement}
 use Rattle.levels.proofs.next_entry.Tie as tie
 
-entry-place-requires : tie.Need-entry-place-requires
-entry-place-requires c κs = search needs
-
 entry-at-requires : tie.Need-entry-at-requires
 entry-at-requires c κs =
     let start = c .before .before in
@@ -21,4 +18,4 @@ returns : tie.Need-returns
 returns c = c .entry-at .ensures ∙ ap (λ (k : ℕ). entryAt (c .before .before .before .args .work .now) k) (c .before .entry-place .ensures)
 
 pub next-entry-spec : {M : Type 1} → statement M
-next-entry-spec = tie.close (tie.spec entry-place-requires entry-at-requires returns)
+next-entry-spec = tie.close (tie.spec (λ c κs. search needs) entry-at-requires returns)

@@ -7,15 +7,6 @@ use borrow.Author.Needs.{needs}
 use Rattle.levels.proofs.read_back.Statement.{statement}
 use Rattle.levels.proofs.read_back.Tie as tie
 
-next-entry-requires : tie.Need-next-entry-requires
-next-entry-requires c κs = search needs
-
-inmost-requires : tie.Need-inmost-requires
-inmost-requires c κs = search needs
-
-entry-answer-requires : tie.Need-entry-answer-requires
-entry-answer-requires c κs = search needs
-
 returns : tie.Need-returns
 returns c =
     let innermost = c .before in
@@ -26,5 +17,4 @@ returns c =
     ∙ ap (λ (e : Entry). readOf (inmost (a .ls)) e (a .at) (a .n)) (at-next-entry .next-entry .ensures)
 
 pub read-back-spec : {M : Type 1} → statement M
-read-back-spec =
-    tie.close (tie.spec next-entry-requires inmost-requires entry-answer-requires returns)
+read-back-spec = tie.close (tie.spec (λ c κs. search needs) (search needs) (search needs) returns)

@@ -7,9 +7,6 @@ use borrow.Author.Needs.{needs}
 use Rattle.levels.proofs.still_four.Statement.{statement}
 use Rattle.levels.proofs.still_four.Tie as tie
 
-still-three-requires : tie.Need-still-three-requires
-still-three-requires c κs = search needs
-
 returns : tie.Need-returns
 unfolding stillFour
 returns c = c .still-three .ensures ∙ sym (pick-yes _ _ _ (eq-eqb _ _ (c .before .if1 .taken)))
@@ -19,4 +16,4 @@ unfolding stillFour
 returns-2 c = sym (pick-no _ _ _ (ne-eqb _ _ (c .if1 .left)))
 
 pub still-four-spec : {M : Type 1} → statement M
-still-four-spec = tie.close (tie.spec still-three-requires returns returns-2)
+still-four-spec = tie.close (tie.spec (search needs) returns returns-2)

@@ -7,30 +7,6 @@ use borrow.Author.Needs.{needs}
 use Rattle.levels.proofs.still_open.Statement.{statement}
 use Rattle.levels.proofs.still_open.Tie as tie
 
-enum-known-ls : tie.Need-enum-known-ls
-enum-known-ls c = search needs
-
-still-one-requires : tie.Need-still-one-requires
-still-one-requires c κs = search needs
-
-enum-known-ls-2 : tie.Need-enum-known-ls-2
-enum-known-ls-2 c = search needs
-
-still-two-requires : tie.Need-still-two-requires
-still-two-requires c κs = search needs
-
-enum-known-ls-3 : tie.Need-enum-known-ls-3
-enum-known-ls-3 c = search needs
-
-still-three-requires : tie.Need-still-three-requires
-still-three-requires c κs = search needs
-
-enum-known-ls-4 : tie.Need-enum-known-ls-4
-enum-known-ls-4 c = search needs
-
-still-four-requires : tie.Need-still-four-requires
-still-four-requires c κs = search needs
-
 returns : tie.Need-returns
 unfolding stillOpen stillFour
 returns c = c .still-one .ensures ∙ sym (ap stillOpen (c .before .before .ls .given .1))
@@ -50,16 +26,5 @@ returns-4 c = c .still-four .ensures ∙ sym (ap stillOpen (c .before .before .l
 pub still-open-spec : {M : Type 1} → statement M
 still-open-spec =
     tie.close
-    (tie.spec
-    enum-known-ls
-    still-one-requires
-    enum-known-ls-2
-    still-two-requires
-    enum-known-ls-3
-    still-three-requires
-    enum-known-ls-4
-    still-four-requires
-    returns
-    returns-2
-    returns-3
-    returns-4)
+    (tie.spec (search needs) (search needs) (search needs) (search needs) (search needs) (search needs) (search needs)
+    (search needs) returns returns-2 returns-3 returns-4)

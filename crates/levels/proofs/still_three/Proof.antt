@@ -7,9 +7,6 @@ use borrow.Author.Needs.{needs}
 use Rattle.levels.proofs.still_three.Statement.{statement}
 use Rattle.levels.proofs.still_three.Tie as tie
 
-still-two-requires : tie.Need-still-two-requires
-still-two-requires c κs = search needs
-
 returns : tie.Need-returns
 unfolding stillThree
 returns c = c .still-two .ensures ∙ sym (pick-yes _ _ _ (eq-eqb _ _ (c .before .if1 .taken)))
@@ -19,4 +16,4 @@ unfolding stillThree
 returns-2 c = sym (pick-no _ _ _ (ne-eqb _ _ (c .if1 .left)))
 
 pub still-three-spec : {M : Type 1} → statement M
-still-three-spec = tie.close (tie.spec still-two-requires returns returns-2)
+still-three-spec = tie.close (tie.spec (search needs) returns returns-2)

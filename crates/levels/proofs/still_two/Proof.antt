@@ -7,9 +7,6 @@ use borrow.Author.Needs.{needs}
 use Rattle.levels.proofs.still_two.Statement.{statement}
 use Rattle.levels.proofs.still_two.Tie as tie
 
-still-one-requires : tie.Need-still-one-requires
-still-one-requires c κs = search needs
-
 returns : tie.Need-returns
 unfolding stillTwo
 returns c = c .still-one .ensures ∙ sym (pick-yes _ _ _ (eq-eqb _ _ (c .before .if1 .taken)))
@@ -19,4 +16,4 @@ unfolding stillTwo
 returns-2 c = sym (pick-no _ _ _ (ne-eqb _ _ (c .if1 .left)))
 
 pub still-two-spec : {M : Type 1} → statement M
-still-two-spec = tie.close (tie.spec still-one-requires returns returns-2)
+still-two-spec = tie.close (tie.spec (search needs) returns returns-2)

@@ -6,13 +6,10 @@ use borrow.Author.Needs.{needs}
 use Rattle.levels.proofs.took.Statement.{statement}
 use Rattle.levels.proofs.took.Tie as tie
 
-add-t2 : tie.Need-add-t2
-add-t2 c = search needs
-
 returns : tie.Need-returns
 returns c =
     let a = c .before .args in
     ap (λ (k : ℕ). record { next = k; count = a .l .count; end = a .l .end; until = a .l .until }) (add-one (a .l .next))
 
 pub took-spec : {M : Type 1} → statement M
-took-spec = tie.close (tie.spec add-t2 returns)
+took-spec = tie.close (tie.spec (search needs) returns)

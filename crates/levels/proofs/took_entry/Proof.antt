@@ -8,9 +8,6 @@ use borrow.Author.Needs.{needs}
 use Rattle.levels.proofs.took_entry.Statement.{statement}
 use Rattle.levels.proofs.took_entry.Tie as tie
 
-enum-known-ls : tie.Need-enum-known-ls
-enum-known-ls c = search needs
-
 took-requires : tie.Need-took-requires
 unfolding inmost
 took-requires c κs =
@@ -18,9 +15,6 @@ took-requires c κs =
     let start = arm .before .before in
     let a = start .args in
     next-of (a .ls) _ (arm .ls .given .1) (start .pre)
-
-enum-known-ls-2 : tie.Need-enum-known-ls-2
-enum-known-ls-2 c = search needs
 
 took-requires-2 : tie.Need-took-requires-2
 unfolding inmost
@@ -30,9 +24,6 @@ took-requires-2 c κs =
     let a = start .args in
     next-of (a .ls) _ (arm .ls2 .given .1) (start .pre)
 
-enum-known-ls-3 : tie.Need-enum-known-ls-3
-enum-known-ls-3 c = search needs
-
 took-requires-3 : tie.Need-took-requires-3
 unfolding inmost
 took-requires-3 c κs =
@@ -40,9 +31,6 @@ took-requires-3 c κs =
     let start = arm .before .before in
     let a = start .args in
     next-of (a .ls) _ (arm .ls3 .given .1) (start .pre)
-
-enum-known-ls-4 : tie.Need-enum-known-ls-4
-enum-known-ls-4 c = search needs
 
 took-requires-4 : tie.Need-took-requires-4
 unfolding inmost
@@ -75,16 +63,5 @@ returns-4 c =
 pub took-entry-spec : {M : Type 1} → statement M
 took-entry-spec =
     tie.close
-    (tie.spec
-    enum-known-ls
-    took-requires
-    enum-known-ls-2
-    took-requires-2
-    enum-known-ls-3
-    took-requires-3
-    enum-known-ls-4
-    took-requires-4
-    returns
-    returns-2
-    returns-3
-    returns-4)
+    (tie.spec (search needs) took-requires (search needs) took-requires-2 (search needs) took-requires-3
+    (search needs) took-requires-4 returns returns-2 returns-3 returns-4)

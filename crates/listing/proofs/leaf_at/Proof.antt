@@ -13,4 +13,4 @@ returns c =
     c .leaf-line .ensures ∙ ap (λ (r : Record). lineOf (leafText (at-record .before .before .args .i + 1) r)) (at-record .record-at .ensures)
 
 pub leaf-at-spec : {M : Type 1} → statement M
-leaf-at-spec = tie.close (tie.spec (λ c κs. search needs) (λ c. search needs) (λ c κs. search needs) returns)
+leaf-at-spec = tie.close (tie.spec (search needs) (search needs) (search needs) returns)

@@ -33,11 +33,5 @@ returns c =
 pub leaf-line-spec : {M : Type 1} → statement M
 leaf-line-spec =
     tie.close
-    (tie.spec
-    (λ c κs. search needs)
-    (λ c. search needs)
-    (λ c κs. search needs)
-    with-decimal-requires
-    (λ c. search needs)
-    with-numbers-requires
+    (tie.spec (search needs) (search needs) (search needs) with-decimal-requires (search needs) with-numbers-requires
     returns)

@@ -5,14 +5,8 @@ use borrow.Author.Needs.{needs}
 use Rattle.listing.proofs.with_next.Statement.{statement}
 use Rattle.listing.proofs.with_next.Tie as tie
 
-with-byte-requires : tie.Need-with-byte-requires
-with-byte-requires c κs = search needs
-
-with-decimal-requires : tie.Need-with-decimal-requires
-with-decimal-requires c κs = search needs
-
 returns : tie.Need-returns
 returns c = adds-as (sym (spaced-one (c .before .before .args .n))) (adds-both (c .before .with-byte .ensures) (c .with-decimal .ensures))
 
 pub with-next-spec : {M : Type 1} → statement M
-with-next-spec = tie.close (tie.spec with-byte-requires with-decimal-requires returns)
+with-next-spec = tie.close (tie.spec (search needs) (search needs) returns)

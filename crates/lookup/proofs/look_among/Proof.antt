@@ -11,17 +11,11 @@ use borrow.Author.Needs.{needs}
 use Rattle.lookup.proofs.look_among.Statement.{statement}
 use Rattle.lookup.proofs.look_among.Tie as tie
 
-refused-requires : tie.Need-refused-requires
-refused-requires c κs = search needs
-
 returns : tie.Need-returns
 returns c =
     let a = c .before .before .before .args in
     c .refused .ensures
     ∙ sym (pick-yes _ _ _ (too-short (length (a .table .now)) (a .leaves) (omega arith)))
-
-look-in-requires : tie.Need-look-in-requires
-look-in-requires c κs = search needs
 
 returns-2 : tie.Need-returns-2
 returns-2 c =
@@ -30,4 +24,4 @@ returns-2 c =
     ∙ sym (pick-no _ _ _ (le-ltb (length (a .table .now)) (recordNumbers * a .leaves) (long-enough (length (a .table .now)) (a .leaves) (omega arith))))
 
 pub look-among-spec : {M : Type 1} → statement M
-look-among-spec = tie.close (tie.spec refused-requires returns look-in-requires returns-2)
+look-among-spec = tie.close (tie.spec (search needs) returns (search needs) returns-2)

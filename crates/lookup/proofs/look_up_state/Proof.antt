@@ -6,30 +6,6 @@ use borrow.Author.Needs.{needs}
 use Rattle.lookup.proofs.look_up_state.Statement.{statement}
 use Rattle.lookup.proofs.look_up_state.Tie as tie
 
-enum-told : tie.Need-enum-told
-enum-told c = search needs
-
-refused-requires : tie.Need-refused-requires
-refused-requires c κs = search needs
-
-enum-told-2 : tie.Need-enum-told-2
-enum-told-2 c = search needs
-
-refused-requires-2 : tie.Need-refused-requires-2
-refused-requires-2 c κs = search needs
-
-enum-told-3 : tie.Need-enum-told-3
-enum-told-3 c = search needs
-
-refused-requires-3 : tie.Need-refused-requires-3
-refused-requires-3 c κs = search needs
-
-enum-known-s : tie.Need-enum-known-s
-enum-known-s c = search needs
-
-look-among-requires : tie.Need-look-among-requires
-look-among-requires c κs = search needs
-
 returns : tie.Need-returns
 unfolding lookupState
 returns c =
@@ -65,16 +41,5 @@ returns-4 c =
 pub look-up-state-spec : {M : Type 1} → statement M
 look-up-state-spec =
     tie.close
-    (tie.spec
-    enum-told
-    refused-requires
-    enum-told-2
-    refused-requires-2
-    enum-told-3
-    refused-requires-3
-    enum-known-s
-    look-among-requires
-    returns
-    returns-2
-    returns-3
-    returns-4)
+    (tie.spec (search needs) (search needs) (search needs) (search needs) (search needs) (search needs) (search needs)
+    (search needs) returns returns-2 returns-3 returns-4)

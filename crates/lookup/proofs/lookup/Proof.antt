@@ -8,12 +8,6 @@ use borrow.Author.Needs.{needs}
 use Rattle.lookup.proofs.lookup.Statement.{statement}
 use Rattle.lookup.proofs.lookup.Tie as tie
 
-in-range-requires : tie.Need-in-range-requires
-in-range-requires c κs = search needs
-
-look-up-state-requires : tie.Need-look-up-state-requires
-look-up-state-requires c κs = search needs
-
 returns : tie.Need-returns
 unfolding lookupOf
 returns c =
@@ -22,9 +16,6 @@ returns c =
     let a = at-in-range .before .before .args in
     c .look-up-state .ensures
     ∙ sym (pick-yes (inRange (a .s)) _ _ (sym (at-in-range .in-range .ensures) ∙ test .if1 .taken))
-
-refused-requires : tie.Need-refused-requires
-refused-requires c κs = search needs
 
 returns-2 : tie.Need-returns-2
 unfolding lookupOf
@@ -36,6 +27,4 @@ returns-2 c =
     ∙ sym (pick-no (inRange (a .s)) _ _ (sym (at-in-range .in-range .ensures) ∙ test .if1 .left))
 
 pub lookup-spec : {M : Type 1} → statement M
-lookup-spec =
-    tie.close
-    (tie.spec in-range-requires look-up-state-requires returns refused-requires returns-2)
+lookup-spec = tie.close (tie.spec (search needs) (search needs) returns (search needs) returns-2)

@@ -5,21 +5,12 @@ use borrow.Author.Needs.{needs}
 use Rattle.lookup.proofs.outside_list.Statement.{statement}
 use Rattle.lookup.proofs.outside_list.Tie as tie
 
-refused-requires : tie.Need-refused-requires
-refused-requires c κs = search needs
-
 returns : tie.Need-returns
 returns c =
     let test = c .before in
     let a = test .before .before .args in
     c .refused .ensures
     ∙ sym (outside-none (a .leaves) (a .table .now) (a .t) (test .if1 .taken))
-
-shared-slice-read-start : tie.Need-shared-slice-read-start
-shared-slice-read-start c = search needs
-
-refused-requires-2 : tie.Need-refused-requires-2
-refused-requires-2 c κs = search needs
 
 returns-2 : tie.Need-returns-2
 returns-2 c =
@@ -28,9 +19,6 @@ returns-2 c =
     let a = test1 .before .before .args in
     c .refused2 .ensures
     ∙ sym (outside-before (a .leaves) (a .table .now) (a .t) (test1 .if1 .left) (test2 .if2 .taken))
-
-refused-requires-3 : tie.Need-refused-requires-3
-refused-requires-3 c κs = search needs
 
 returns-3 : tie.Need-returns-3
 returns-3 c =
@@ -43,11 +31,4 @@ returns-3 c =
 pub outside-list-spec : {M : Type 1} → statement M
 outside-list-spec =
     tie.close
-    (tie.spec
-    refused-requires
-    returns
-    shared-slice-read-start
-    refused-requires-2
-    returns-2
-    refused-requires-3
-    returns-3)
+    (tie.spec (search needs) returns (search needs) (search needs) returns-2 (search needs) returns-3)

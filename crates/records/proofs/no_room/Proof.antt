@@ -6,11 +6,8 @@ use borrow.Author.Needs.{needs}
 use Rattle.records.proofs.no_room.Statement.{statement}
 use Rattle.records.proofs.no_room.Tie as tie
 
-room-requires : tie.Need-room-requires
-room-requires c κs = search needs
-
 returns : tie.Need-returns
 returns c = λ table e. ap (λ (k : ℕ). leb k (c .before .args .leaves)) (c .room .ensures table e)
 
 pub no-room-spec : {M : Type 1} → statement M
-no-room-spec = tie.close (tie.spec room-requires returns)
+no-room-spec = tie.close (tie.spec (search needs) returns)
