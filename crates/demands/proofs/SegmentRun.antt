@@ -43,7 +43,8 @@ use Rattle.state.specs.Rows.{is, topLengths, innerFaults}
 use Rattle.state.specs.Opening.{spanOf, stepOpening}
 use Rattle.state.specs.Sidx.{under, sidxStart, stepSidx}
 use Rattle.state.specs.Leaf.{leafSo0, stepLeaf}
-use Rattle.state.specs.Levels.{Entry, entryAt, entryPlace, inmost, depth, took, tookEntry, push, passedAll, stillOne, stillTwo, stillThree, stillOpen, entryFaults, slotOf}
+use Rattle.state.specs.Levels.{entryAt, entryPlace, inmost, depth, took, tookEntry, push, passedAll, stillOne, stillTwo, stillThree, stillOpen, entryFaults, slotOf}
+use Rattle.state.specs.declared.StoredEntry.{StoredEntry}
 use Rattle.state.specs.Stages.{gapKind, gapBoxes, wrapGap, stepGap, onward, follow, topOf, topLevel, indexEnds, InnerBody, innerKind, beginInner, wrapInner, innerLevel, liftInner, stepInner, leafRecord, liftLeaf, stepSlot, stepEntry, stepStage}
 use Rattle.state.specs.Step.{stage0}
 use Rattle.descent.specs.Sidx.{sidxD}
@@ -238,7 +239,7 @@ module _ (top : Top) where
     unfolding run stepStage stepEntry entryD readBackD either contBy
     entry-run f n [] = refl
     entry-run f n (b ∷ bs) =
-        let e : Entry = entryAt (f .work) (entryPlace ls) in
+        let e : StoredEntry = entryAt (f .work) (entryPlace ls) in
         unless-both (S (suc n) bs) (λ r. after r next) _ _ _ _ (entryFaults (inmost ls) e (f .now) n) (λ x. refl) (slot-run (e .inner) (slotOf e (f .now) n) f n b bs)
 
   entries-run : (inner : Under) (k : ℕ) (ls : Levels) → k + inmost ls .next ≡ inmost ls .count → ((ms : Levels) → depth ms ≡ depth ls → depth ms < 4 → Opens inner ms) → (f : Flow) (n : ℕ) (bs : List ℕ) →

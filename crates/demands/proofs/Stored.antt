@@ -18,7 +18,8 @@ use Rattle.segment.specs.Boxes.{entryOf, entriesOf}
 use Rattle.segment.specs.Boxes as tree
 use Rattle.segment.proofs.Said.{field-some}
 use Rattle.basics.specs.Put.{putAll}
-use Rattle.state.specs.Levels.{Entry, wordAt, entryAt}
+use Rattle.state.specs.Levels.{wordAt, entryAt}
+use Rattle.state.specs.declared.StoredEntry.{StoredEntry}
 
 -- Two work areas of one length that are the same below a place.
 pub record Alike (a : ℕ) (v w : List ℕ) : Type 0 where
@@ -76,7 +77,7 @@ word-alike {a} {v} {w} i l h =
     getD-take 4 (drop i v) j 0 lt ∙ getD-drop i v j 0 ∙ l .same (i + j) (omega arith) ∙ sym (getD-take 4 (drop i w) j 0 lt ∙ getD-drop i w j 0)))
 
 -- an entry of the tree, as it is read back from the work area
-abbrev pub entryFrom : tree.Entry → Entry
+abbrev pub entryFrom : tree.Entry → StoredEntry
 entryFrom e = record { inner = not (eqb (e .kind) 0); size = e .size; duration = e .duration; sap = e .sap }
 
 -- entries as they are read back from a place on

@@ -26,7 +26,7 @@ use Rattle.state.specs.declared.Level.{Level}
 use Rattle.state.specs.declared.Slot.{Slot}
 use Rattle.state.specs.Flow.{Flow, withNow, listed, workBytes, levelBytes}
 use Rattle.state.specs.Rows.{noRoom}
-use Rattle.state.specs.Levels.{Entry, entryAt, altered, slotOf, took}
+use Rattle.state.specs.Levels.{entryAt, altered, slotOf, took}
 use Rattle.state.specs.Stages.{innerLevel, leafRecord}
 use Rattle.descent.specs.Leaf.{leafD}
 use Rattle.descent.specs.Whole.{Under, innerD, slotD, readBackD, entryD, entriesD}

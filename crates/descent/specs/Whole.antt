@@ -21,7 +21,8 @@ use Rattle.state.specs.declared.FinishAnswer.the-variants as finishes
 use Rattle.state.specs.Flow.{Flow, Left, left, withNow, listed, workBytes, levelBytes}
 use Rattle.state.specs.Opening.{spanOf}
 use Rattle.state.specs.Sidx.{under}
-use Rattle.state.specs.Levels.{Entry, entryAt, entryFaults, slotOf, took}
+use Rattle.state.specs.Levels.{entryAt, entryFaults, slotOf, took}
+use Rattle.state.specs.declared.StoredEntry.{StoredEntry}
 use Rattle.state.specs.Stages.{gapBoxes, topOf, topLevel, innerKind, innerLevel, leafRecord}
 use Rattle.state.specs.Step.{pastLimit, pastMaterial, flow0}
 use Rattle.state.specs.Calls.{Out, out, startOf}
@@ -52,7 +53,7 @@ slotD inner top depth true slot f n bs = after (innerD top slot depth f n bs) (�
 slotD inner top depth false slot f n bs =
     after (leafD (top .id) slot f n bs) (λ seen g m cs. okay tt (listed g (leafRecord slot (g .now) (seen .first)) (slot .until) (seen .last)) m cs)
 
-unfoldable pub readBackD : Under → Top → ℕ → Level → Entry → Flow → ℕ → List ℕ → Went
+unfoldable pub readBackD : Under → Top → ℕ → Level → StoredEntry → Flow → ℕ → List ℕ → Went
 readBackD inner top depth l e f n bs =
     unless (entryFaults l e (f .now) n) (λ x. fail x (left f) (suc n)) (slotD inner top depth (e .inner) (slotOf e (f .now) n) f n bs)
 

@@ -11,7 +11,8 @@ use Rattle.segment.specs.Constants.{entryBytes, typeBit}
 use Rattle.state.specs.Flow.{workBytes}
 use Rattle.state.specs.declared.Levels.{Levels}
 use Rattle.state.specs.declared.Levels.the-variants as levels
-use Rattle.state.specs.Levels.{Entry, wordAt, entryAt, inmost, depth, entryPlace}
+use Rattle.state.specs.Levels.{wordAt, entryAt, inmost, depth, entryPlace}
+use Rattle.state.specs.declared.StoredEntry.{StoredEntry}
 use Rattle.state.specs.Ranges.{Within, levelsBounds}
 
 next-byte : (w : List ℕ) (i j : ℕ) → suc i ≡ j → i < length w → drop i w ≡ getD w i 0 ∷ drop j w
@@ -52,6 +53,6 @@ pub place-fits : (ls : Levels) → Within (levelsBounds ls) → inmost ls .next 
 place-fits ls w h = omega (arith, depth-most ls .0, depth-most ls .1, next-most ls w .0, next-most ls w .1)
 
 -- an entry of three words
-pub entry-law : (w : List ℕ) (i a b c : ℕ) → a ≡ wordAt w i → b ≡ wordAt w (i + 4) → c ≡ wordAt w (i + 8) → _≡_ {A = Entry} (record { inner = leb typeBit a; size = a % typeBit; duration = b; sap = c }) (entryAt w i)
+pub entry-law : (w : List ℕ) (i a b c : ℕ) → a ≡ wordAt w i → b ≡ wordAt w (i + 4) → c ≡ wordAt w (i + 8) → _≡_ {A = StoredEntry} (record { inner = leb typeBit a; size = a % typeBit; duration = b; sap = c }) (entryAt w i)
 unfolding entryAt
 entry-law w i a b c e k l = rw (e, k, l)

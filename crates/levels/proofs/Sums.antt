@@ -8,7 +8,8 @@ use borrow.Author.Tests.{ltb-true, ltb-false, leb-true, leb-false, eqb-true, eqb
 use Rattle.basics.proofs.Tests.{or-neither}
 use Rattle.basics.specs.Choose.{pick}
 use Rattle.state.specs.declared.Level.{Level}
-use Rattle.state.specs.Levels.{Entry, altered}
+use Rattle.state.specs.Levels.{altered}
+use Rattle.state.specs.declared.StoredEntry.{StoredEntry}
 
 pub is-sum : (a b c : ℕ) → a ≤ c → eqb (c - a) b ≡ eqb (a + b) c
 is-sum a b c h = at (eqb (c - a) b) refl
@@ -53,7 +54,7 @@ pub or-third : (a b c : Bool) → a ≡ false → b ≡ false → (a || b) || c 
 or-third a b c e k = rw (e, k)
 
 -- an entry that lasts too long is altered
-pub late : (l : Level) (e : Entry) (now n : ℕ) → ltb (l .until) (now + e .duration) ≡ true → true ≡ altered l e now n
+pub late : (l : Level) (e : StoredEntry) (now n : ℕ) → ltb (l .until) (now + e .duration) ≡ true → true ≡ altered l e now n
 unfolding altered
 late l e now n h = sym (or-second (eqb (e .size) 0) _ _ h)
 
@@ -71,7 +72,7 @@ ends true a b u e = whole a b u e
 ends false a b u e = let k = leb-false b a e in omega arith
 
 -- an entry that is not altered ends no later than its index, in bytes and in time
-pub unaltered : (l : Level) (e : Entry) (now n : ℕ) → altered l e now n ≡ false → (n + e .size ≤ l .end) × (now + e .duration ≤ l .until)
+pub unaltered : (l : Level) (e : StoredEntry) (now n : ℕ) → altered l e now n ≡ false → (n + e .size ≤ l .end) × (now + e .duration ≤ l .until)
 unfolding altered
 unaltered l e now n h =
     let k = or-neither (eqb (e .size) 0 || ltb (l .until) (now + e .duration)) _ h in

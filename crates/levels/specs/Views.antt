@@ -5,18 +5,15 @@ use Rattle.basics.specs.Choose.{pick}
 use Rattle.state.specs.declared.Level.{Level}
 use Rattle.state.specs.declared.Levels.{Levels}
 use Rattle.state.specs.declared.Levels.the-variants as levels
+use Rattle.state.specs.declared.StoredEntry.{StoredEntry}
 use Rattle.state.specs.Levels as defs
-use Rattle.levels.specs.declared.Entry.{Entry}
 use Rattle.levels.specs.declared.EntryRead.{EntryRead}
 use Rattle.levels.specs.declared.EntryRead.the-variants as read
 use Rattle.levels.specs.declared.Still.{Still}
 use Rattle.levels.specs.declared.Still.the-variants as still
 
-abbrev pub entryOf : Entry → defs.Entry
-entryOf e = record { inner = e .inner; size = e .size; duration = e .duration; sap = e .sap }
-
 -- an entry read back at byte `n`, when the time line stands at `at`: where it stands, or that it was altered
-abbrev pub readOf : Level → defs.Entry → ℕ → ℕ → EntryRead
+abbrev pub readOf : Level → StoredEntry → ℕ → ℕ → EntryRead
 readOf l e at n = pick (defs.altered l e at n) read.Altered (read.Stands (e .inner) (defs.slotOf e at n))
 
 abbrev pub openOf : Still → Option Levels

@@ -9,21 +9,14 @@ ghost use Rattle.segment.specs.Constants.{mostEntries, timeLimit};
 ghost use Rattle.state.specs.Flow.{workBytes};
 ghost use Rattle.state.specs.Levels as defs;
 ghost use Rattle.state.specs.Ranges.{Within, levelsBounds};
-ghost use Rattle.levels.specs.Views.{entryOf, readOf, openOf, stillFour};
+ghost use Rattle.levels.specs.Views.{readOf, openOf, stillFour};
 use state::ENTRY_BYTES;
 use state::LEVEL_BYTES;
 use state::Level;
 use state::Levels;
 use state::Slot;
+use state::StoredEntry;
 use state::TYPE_BIT;
-
-// An entry as it stands in the work area.
-pub struct Entry {
-    pub inner: bool,
-    pub size: u64,
-    pub duration: u64,
-    pub sap: u64,
-}
 
 // An entry that was read back: whether it is an index entry and where it stands, or that it was altered between calls.
 pub enum EntryRead {
@@ -55,14 +48,14 @@ pub fn word_at(work: &[u8], i: usize) -> u64
     ((a * 256 + b) * 256 + c) * 256 + d
 }
 
-fn entry_at(work: &[u8], i: usize) -> Entry
+fn entry_at(work: &[u8], i: usize) -> StoredEntry
     requires { ⌜ i + 12 ≤ length (now work) ⌝ }
-    ensures { λ r. ⌜ entryOf r ≡ defs.entryAt (now (work .entry)) i ⌝ }
+    ensures { λ r. ⌜ r ≡ defs.entryAt (now (work .entry)) i ⌝ }
 {
     let first = word_at(work, i);
     let duration = word_at(work, i + 4);
     let sap = word_at(work, i + 8);
-    Entry {
+    StoredEntry {
         inner: TYPE_BIT <= first,
         size: first % TYPE_BIT,
         duration: duration,
@@ -105,9 +98,9 @@ fn entry_place(ls: Levels) -> u64
 }
 
 // The next entry of the innermost index, read back.
-fn next_entry(work: &[u8], ls: Levels) -> Entry
+fn next_entry(work: &[u8], ls: Levels) -> StoredEntry
     requires { ⌜ (workBytes ≤ length (now work)) × Within (levelsBounds ls) × (defs.inmost ls .next < defs.inmost ls .count) ⌝ }
-    ensures { λ r. ⌜ entryOf r ≡ defs.entryAt (now (work .entry)) (defs.entryPlace ls) ⌝ }
+    ensures { λ r. ⌜ r ≡ defs.entryAt (now (work .entry)) (defs.entryPlace ls) ⌝ }
 {
     let place = entry_place(ls) as usize;
     entry_at(work, place)
@@ -229,7 +222,7 @@ fn sum_reaches(c: u64, a: u64, b: u64) -> bool
 }
 
 // Whether an entry is all that remains of its index.
-fn fills(l: Level, e: Entry, at: u64, n: u64) -> bool
+fn fills(l: Level, e: StoredEntry, at: u64, n: u64) -> bool
     ensures { λ r. ⌜ r ≡ (eqb (n + e .size) (l .end) && eqb (at + e .duration) (l .until)) ⌝ }
 {
     if sum_is(n, e.size, l.end) {
@@ -239,8 +232,8 @@ fn fills(l: Level, e: Entry, at: u64, n: u64) -> bool
 }
 
 // Whether an entry read back at byte `n`, when the time line stands at `at`, cannot be what its index stored.
-fn altered(l: Level, e: Entry, at: u64, n: u64) -> bool
-    ensures { λ r. ⌜ r ≡ defs.altered l (entryOf e) at n ⌝ }
+fn altered(l: Level, e: StoredEntry, at: u64, n: u64) -> bool
+    ensures { λ r. ⌜ r ≡ defs.altered l e at n ⌝ }
 {
     if e.size == 0 {
         return true;
@@ -255,9 +248,9 @@ fn altered(l: Level, e: Entry, at: u64, n: u64) -> bool
 }
 
 // Where an entry stands, and when it ends.
-fn slot_of(e: Entry, at: u64, n: u64) -> Slot
+fn slot_of(e: StoredEntry, at: u64, n: u64) -> Slot
     requires { ⌜ (n + e .size < timeLimit) × (at + e .duration < timeLimit) ⌝ }
-    ensures { λ r. ⌜ r ≡ defs.slotOf (entryOf e) at n ⌝ }
+    ensures { λ r. ⌜ r ≡ defs.slotOf e at n ⌝ }
 {
     Slot {
         pos: n,
@@ -268,8 +261,8 @@ fn slot_of(e: Entry, at: u64, n: u64) -> Slot
 }
 
 // What an entry comes to.
-fn entry_answer(l: Level, e: Entry, at: u64, n: u64) -> EntryRead
-    ensures { λ r. ⌜ r ≡ readOf l (entryOf e) at n ⌝ }
+fn entry_answer(l: Level, e: StoredEntry, at: u64, n: u64) -> EntryRead
+    ensures { λ r. ⌜ r ≡ readOf l e at n ⌝ }
 {
     if altered(l, e, at, n) {
         return EntryRead::Altered;

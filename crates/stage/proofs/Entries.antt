@@ -20,7 +20,7 @@ use Rattle.state.specs.declared.Stage.{Stage}
 use Rattle.state.specs.declared.Stage.the-variants as stage
 use Rattle.state.specs.Flow.{Flow, Left, left}
 use Rattle.state.specs.Leaf.{leafSo0}
-use Rattle.state.specs.Levels.{Entry, entryAt, entryPlace, inmost, depth, altered, tookEntry}
+use Rattle.state.specs.Levels.{entryAt, entryPlace, inmost, depth, tookEntry}
 use Rattle.state.specs.Ranges.{atMost, below, Within, openingBounds, gapBounds, topBounds, levelBounds, levelsBounds, slotBounds, innerBounds, leafBounds, headBounds, stageBounds}
 use Rattle.state.specs.Stages.{innerKind, liftInner, stepSlot, stepEntry, stepStage}
 use Rattle.inner.specs.Views.{boxOf, viewInner, boxBounds}

@@ -29,7 +29,8 @@ use Rattle.state.specs.declared.Stage.the-variants as stage
 use Rattle.state.specs.Flow.{Flow, Left, left, withNow}
 use Rattle.state.specs.Sidx.{Place, topmost, under, countFaults, sumFaults, fieldEnds}
 use Rattle.state.specs.Traf.{timed, fallFaults, trafNow, lacking, trafNext, trafBoxes, wrapTraf}
-use Rattle.state.specs.Levels.{Entry, inmost, stillOne, stillOpen, slotOf}
+use Rattle.state.specs.Levels.{inmost, stillOne, stillOpen, slotOf}
+use Rattle.state.specs.declared.StoredEntry.{StoredEntry}
 use Rattle.state.specs.Stages.{onward, topOf, indexEnds, leafRecord}
 use Rattle.state.proofs.BoxLengths.{six-before}
 
@@ -92,7 +93,7 @@ material-ends x f n some-entry =
 
 -- The record of a leaf whose first byte is byte `n`, when the time line stands at `now`: that place and that time, and the rest as its
 -- entry says.
-pub leaf-record : (e : Entry) (now n first : ℕ) → leafRecord (slotOf e now n) now first ≡
+pub leaf-record : (e : StoredEntry) (now n first : ℕ) → leafRecord (slotOf e now n) now first ≡
     record { position = n; size = e .size; start = now; duration = e .duration; sap = e .sap; time = first }
 leaf-record e now n first =
     let size : n + e .size - n ≡ e .size = omega arith in

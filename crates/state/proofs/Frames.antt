@@ -78,7 +78,8 @@ use Rattle.state.specs.Traf as traffic
 use Rattle.state.specs.Traf.{nothing, trafEnds, beginTraf, stepTrafBody, trafBox, trafBoxes, wrapTraf, trafNext, trafSo0, stepTraf, beginTrafBoxes}
 use Rattle.state.specs.Leaf.{skipped, seeing, beginMoof, stepMoofBody, moofKind, moofNext, moofBoxes, wrapMoof, stepMoof, beginMoofBoxes, beginLeaf, stepLeafBody, leafKind, leafBoxes, wrapLeaf, stepLeaf, leafSo0}
 use Rattle.state.specs.Opening.{passed, indexed, spanOf, unlisted, brandsFrom, stypEnds, beginOpening, stepOpeningBody, openingBox, opening, wrapOpening, stepOpening}
-use Rattle.state.specs.Levels.{Entry, entryAt, entryPlace, inmost, depth, tookEntry, push, stillOpen, entryFaults, slotOf}
+use Rattle.state.specs.Levels.{entryAt, entryPlace, inmost, depth, tookEntry, push, stillOpen, entryFaults, slotOf}
+use Rattle.state.specs.declared.StoredEntry.{StoredEntry}
 use Rattle.state.specs.Stages.{gapKind, gapBoxes, wrapGap, stepGap, onward, follow, topOf, topLevel, indexEnds, InnerBody, innerKind, innerLevel, stepInner, leafRecord, liftLeaf, stepInLeaf, stepSlot, stepEntry, stepStage}
 use Rattle.state.specs.Places.{sidxByte, openingBodyByte, openingByte, stageByte, storedAt}
 use Rattle.state.specs.Step.{World, reading, ended, refused, settle, overLimit, leftOver, step, run}
@@ -347,7 +348,7 @@ stage-framed (stage.Opening brand s) f n b =
 stage-framed (stage.Gap top l end s) f n b =
     framed-none f b _ (gap-stage-left top l end s f n b)
 stage-framed (stage.Entry top ls) f n b =
-    let e : Entry = entryAt (f .work) (entryPlace ls) in
+    let e : StoredEntry = entryAt (f .work) (entryPlace ls) in
     framed-unless (entryFaults (inmost ls) e (f .now) n) f b _ (slot-framed top (tookEntry ls) (e .inner) (slotOf e (f .now) n) f n b)
 stage-framed (stage.Leaf top ls slot s) f n b = leaf-framed top ls slot s f n b
 stage-framed (stage.Inner top ls slot (inners.Head h)) f n b = framed-none f b _ (inner-head-left top ls slot h f n b)
@@ -439,7 +440,7 @@ stage-unlisted (stage.Gap top l end s) f n b =
     unlisted-none f (stepStage (stage.Gap top l end s) f n b)
     (gap-stage-left top l end s f n b)
 stage-unlisted (stage.Entry top ls) f n b =
-    let e : Entry = entryAt (f .work) (entryPlace ls) in
+    let e : StoredEntry = entryAt (f .work) (entryPlace ls) in
     unless-unlisted (entryFaults (inmost ls) e (f .now) n) f (stepSlot top (tookEntry ls) (e .inner) (slotOf e (f .now) n) f n b)
     (slot-unlisted top (tookEntry ls) (e .inner) (slotOf e (f .now) n) f n b)
 stage-unlisted (stage.Leaf top ls slot s) f n b = listing-unlisted top ls slot f (stepLeaf (top .id) slot s f n b) (leaf-left (top .id) slot s f n b)

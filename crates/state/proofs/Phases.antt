@@ -43,7 +43,8 @@ use Rattle.state.specs.Sidx as Index
 use Rattle.state.specs.Traf as Trafs
 use Rattle.state.specs.Traf.{timed, fallFaults, lacking}
 use Rattle.state.specs.Leaf.{leafLacks}
-use Rattle.state.specs.Levels.{Entry, entryAt, entryPlace, inmost, depth, altered}
+use Rattle.state.specs.Levels.{entryAt, entryPlace, inmost, depth, altered}
+use Rattle.state.specs.declared.StoredEntry.{StoredEntry}
 use Rattle.state.specs.Places.{sidxByte, openingBodyByte, openingByte, stageByte, storedAt}
 use Rattle.state.specs.Step.{reading, ended, refused, entryShows, overLimit, step}
 
@@ -183,17 +184,17 @@ brand-compatible brand span found v f n = (
 
 -- Row 12, at an entry's first byte: one that is not altered has a size, ends no later than its index, and ends before it in bytes, or,
 -- where it is the last, with it in bytes and in time. And one of which that holds is not altered.
-pub record Unaltered (l : Level) (e : Entry) (now n : ℕ) : Type 0 where
+pub record Unaltered (l : Level) (e : StoredEntry) (now n : ℕ) : Type 0 where
   pub some-size : e .size ≢ 0
   pub in-time : now + e .duration ≤ l .until
   pub last : suc (l .next) ≡ l .count → (n + e .size ≡ l .end) × (now + e .duration ≡ l .until)
   pub more : suc (l .next) ≢ l .count → n + e .size < l .end
 
 -- the last test of a read-back entry, by whether it is the last of its index
-lastly : Level → Entry → ℕ → ℕ → Bool → Bool
+lastly : Level → StoredEntry → ℕ → ℕ → Bool → Bool
 lastly l e now n last = pick last (not (eqb (n + e .size) (l .end) && eqb (now + e .duration) (l .until))) (leb (l .end) (n + e .size))
 
-pub unaltered : (l : Level) (e : Entry) (now n : ℕ) → altered l e now n ≡ false → Unaltered l e now n
+pub unaltered : (l : Level) (e : StoredEntry) (now n : ℕ) → altered l e now n ≡ false → Unaltered l e now n
 unfolding altered lastly pick
 unaltered l e now n h =
     let final : Bool = lastly l e now n (eqb (suc (l .next)) (l .count)) in
@@ -211,7 +212,7 @@ unaltered l e now n h =
         let (a, b) = and-both (eqb (n + e .size) (l .end)) (eqb (now + e .duration) (l .until)) (not-false (eqb (n + e .size) (l .end) && eqb (now + e .duration) (l .until)) g) in
         (eqb-true (n + e .size) (l .end) a, eqb-true (now + e .duration) (l .until) b)
 
-pub unaltered-passes : (l : Level) (e : Entry) (now n : ℕ) → Unaltered l e now n → altered l e now n ≡ false
+pub unaltered-passes : (l : Level) (e : StoredEntry) (now n : ℕ) → Unaltered l e now n → altered l e now n ≡ false
 unfolding altered lastly pick
 unaltered-passes l e now n u =
     rw (ne-eqb (e .size) 0 (u .some-size), le-ltb (l .until) (now + e .duration) (u .in-time)) (at (eqb (suc (l .next)) (l .count)) refl)

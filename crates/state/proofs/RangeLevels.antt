@@ -13,7 +13,8 @@ use Rattle.machine.proofs.Faults.{shows-none}
 use Rattle.state.specs.declared.Level.{Level}
 use Rattle.state.specs.declared.Levels.{Levels}
 use Rattle.state.specs.declared.Levels.the-variants as levels
-use Rattle.state.specs.Levels.{Entry, inmost, depth, tookEntry, push, passedAll, stillOne, stillTwo, stillThree, stillOpen, altered, entryFaults}
+use Rattle.state.specs.Levels.{inmost, depth, tookEntry, push, passedAll, stillOne, stillTwo, stillThree, stillOpen, altered, entryFaults}
+use Rattle.state.specs.declared.StoredEntry.{StoredEntry}
 use Rattle.state.specs.Ranges.{Within, levelBounds, levelsBounds}
 
 -- the innermost index has an entry to come, and ends no earlier than the time `now`
@@ -36,7 +37,7 @@ took-until (levels.Three a b c) = refl
 took-until (levels.Four a b c d) = refl
 
 -- an entry that is not altered ends no later than its index
-pub entry-fits : (l : Level) (e : Entry) (now n : ℕ) → entryFaults l e now n ≡ [] → now + e .duration ≤ l .until
+pub entry-fits : (l : Level) (e : StoredEntry) (now n : ℕ) → entryFaults l e now n ≡ [] → now + e .duration ≤ l .until
 unfolding altered
 entry-fits l e now n h =
     let k = shows-none (altered l e now n) 12 n h in

@@ -35,7 +35,8 @@ use Rattle.state.specs.Rows.{is, topLengths, innerFaults}
 use Rattle.state.specs.Opening.{stepOpening}
 use Rattle.state.specs.Sidx.{topmost, under, stepSidx}
 use Rattle.state.specs.Leaf.{leafSo0, stepLeaf}
-use Rattle.state.specs.Levels.{Entry, entryAt, entryPlace, inmost, depth, tookEntry, push, stillOpen, entryFaults, slotOf}
+use Rattle.state.specs.Levels.{entryAt, entryPlace, inmost, depth, tookEntry, push, stillOpen, entryFaults, slotOf}
+use Rattle.state.specs.declared.StoredEntry.{StoredEntry}
 use Rattle.state.specs.Stages.{topOf, topLevel, indexEnds, InnerBody, liftSidx, innerKind, wrapInner, innerLevel, stepInner, onward, follow, leafRecord, stepInLeaf, stepSlot, stepEntry, stepGap, stepStage}
 use Rattle.state.specs.Ranges.{Bound, atMost, below, Within, headBounds, sidxBounds, openingBounds, gapBounds, leafBounds, topBounds, levelBounds, levelsBounds, slotBounds, innerBounds, stageBounds}
 use Rattle.state.proofs.RangeTests.{within-append, within-first, within-second, within-three, three-within, within-four, four-within}
@@ -157,7 +158,7 @@ unfolding stepSlot leafBounds headBounds
 step-slot top ls true slot f n b hn hb a k = step-inner top ls slot (f .now) (inHead at.First) f n b hn hb a tt (k, refl)
 step-slot top ls false slot f n b hn hb a k = step-in-leaf top ls slot (leafBox.Head (leafSo0 (f .last)) at.First) f n b hn hb a tt k
 
-step-entry : (top : Top) (ls : Levels) (e : Entry) (f : Flow) (n b : ℕ) → n ≤ limit → b < 256 → Within (topBounds top) → Within (levelsBounds ls) → Comes ls (f .now) → f .leaves ≤ mostRecords →
+step-entry : (top : Top) (ls : Levels) (e : StoredEntry) (f : Flow) (n b : ℕ) → n ≤ limit → b < 256 → Within (topBounds top) → Within (levelsBounds ls) → Comes ls (f .now) → f .leaves ≤ mostRecords →
     StageKept (stepEntry top ls e f n b)
 unfolding stepEntry
 step-entry top ls e f n b hn hb w v c k =

@@ -58,7 +58,8 @@ use Rattle.state.specs.Sidx as Index
 use Rattle.state.specs.Sidx.{Place, topmost, under, countFaults, sumFaults, sizeOf, entrySizeFaults, wordPlace, indexOf, closeSidx, fieldEnds, entryEnds, stepSidx}
 use Rattle.state.specs.Opening.{Opened, passed, indexed, brandsFrom, stypEnds, skipOpening, beginOpening, stepOpeningBody, openingBox, closeOpening, opening, wrapOpening, stepOpening}
 use Rattle.state.specs.Leaf.{leafSo0, leafNext, leafNow, leafBoxes, wrapLeaf, stepLeaf}
-use Rattle.state.specs.Levels.{Entry, entryAt, entryPlace, inmost, depth, took, tookEntry, push, passedAll, stillOne, stillTwo, stillThree, stillOpen, altered, entryFaults, slotOf}
+use Rattle.state.specs.Levels.{entryAt, entryPlace, inmost, depth, took, tookEntry, push, passedAll, stillOne, stillTwo, stillThree, stillOpen, altered, entryFaults, slotOf}
+use Rattle.state.specs.declared.StoredEntry.{StoredEntry}
 use Rattle.state.specs.Stages.{gapNext, gapBoxes, wrapGap, stepGap, onward, follow, topOf, topLevel, indexEnds, stepInLeaf, stepSlot, stepEntry, stepStage}
 use Rattle.state.specs.Stages.{InnerBody, liftSidx, innerKind, wrapInner, innerLevel, stepInner}
 use Rattle.state.specs.Places.{sidxByte, openingBodyByte, openingByte, stageByte, storedAt}
@@ -119,7 +120,7 @@ still-open (levels.Three a b c) p h = still-three a b c p h
 still-open (levels.Four a b c d) p h = pick-holds (Still p) (passedAll d) _ _ (λ e. still-three a b c p (omega arith)) (λ e. (h, omega (arith, to-come d e)))
 
 -- an entry that is not altered ends within its index, and before its end where another is to come
-took-ends : (l : Level) (e : Entry) (now n : ℕ) → entryFaults l e now n ≡ [] → n + e .size + toCome (took l) ≤ l .end
+took-ends : (l : Level) (e : StoredEntry) (now n : ℕ) → entryFaults l e now n ≡ [] → n + e .size + toCome (took l) ≤ l .end
 unfolding toCome
 took-ends l e now n h =
     let u : Unaltered l e now n = unaltered l e now n (shows-none (altered l e now n) 12 n h) in
@@ -127,7 +128,7 @@ took-ends l e now n h =
     (λ last. omega (arith, u .last (eqb-true (suc (l .next)) (l .count) last)))
     (λ more. omega (arith, u .more (eqb-false (suc (l .next)) (l .count) more)))
 
-took-fits : (ls : Levels) (e : Entry) (now n : ℕ) → entryFaults (inmost ls) e now n ≡ [] → Fits ls n → Fits (tookEntry ls) (n + e .size)
+took-fits : (ls : Levels) (e : StoredEntry) (now n : ℕ) → entryFaults (inmost ls) e now n ≡ [] → Fits ls n → Fits (tookEntry ls) (n + e .size)
 unfolding tookEntry inmost
 took-fits (levels.One a) e now n h f = omega (arith, took-ends a e now n h)
 took-fits (levels.Two a b) e now n h f = omega (arith, took-ends b e now n h)
@@ -364,7 +365,7 @@ stage-within (stage.Gap top l end s) f n b h =
     lift-unrefused Any (λ u g. suc n ≡ end) (InStage (suc n)) Any (stage.Gap top l end) (λ u g. follow top (levels.One l) g) (λ x kept. x) (stepGap end s f n b) (λ s' g z. h)
     (λ u g z. follow-fits top (levels.One l) g (suc n) (rw z h)) (step-gap end s f n b)
 stage-within (stage.Entry top ls) f n b h =
-    let e : Entry = entryAt (f .work) (entryPlace ls) in
+    let e : StoredEntry = entryAt (f .work) (entryPlace ls) in
     unless-unrefused (InStage (suc n)) Any (entryFaults (inmost ls) e (f .now) n) (left f) (stepSlot top (tookEntry ls) (e .inner) (slotOf e (f .now) n) f n b)
     (λ none-shown. step-slot top (tookEntry ls) (e .inner) (slotOf e (f .now) n) f n b (took-fits ls e (f .now) n none-shown (h .0)))
 stage-within (stage.Leaf top ls slot s) f n b h = step-in-leaf top ls slot s f n b h

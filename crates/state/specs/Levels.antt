@@ -15,19 +15,14 @@ use Rattle.state.specs.declared.Level.{Level}
 use Rattle.state.specs.declared.Levels.{Levels}
 use Rattle.state.specs.declared.Levels.the-variants as levels
 use Rattle.state.specs.declared.Slot.{Slot}
+use Rattle.state.specs.declared.StoredEntry.{StoredEntry}
 use Rattle.state.specs.Sidx.{sizeOf}
 
--- an entry as it stands in the work area, 12 bytes from a place on: whether it is of type 1, and its numbers
-pub record Entry : Type 0 where
-  pub inner : Bool
-  pub size : ℕ
-  pub duration : ℕ
-  pub sap : ℕ
-
+-- an entry as it stands in the work area, 12 bytes from a place on
 abbrev pub wordAt : List ℕ → ℕ → ℕ
 wordAt work i = number (take 4 (drop i work))
 
-unfoldable pub entryAt : List ℕ → ℕ → Entry
+unfoldable pub entryAt : List ℕ → ℕ → StoredEntry
 entryAt work i =
     record { inner = leb typeBit (wordAt work i); size = sizeOf (wordAt work i); duration = wordAt work (i + 4); sap = wordAt work (i + 8) }
 
@@ -86,7 +81,7 @@ stillOpen (levels.Four a b c d) = pick (passedAll d) (stillThree a b c) (some (l
 
 -- row 12: an entry read back at byte n when the time line stands at `now`: its size is 0, its duration is more than what remains
 -- of its index, its size is as much or more with entries still to follow, or, for the last entry, either is not all that remains
-unfoldable pub altered : Level → Entry → ℕ → ℕ → Bool
+unfoldable pub altered : Level → StoredEntry → ℕ → ℕ → Bool
 altered l e now n =
     eqb (e .size) 0
     || ltb (l .until) (now + e .duration)
@@ -95,8 +90,8 @@ altered l e now n =
     (leb (l .end) (n + e .size))
 
 -- row 12: a stored entry altered between calls (entry's first byte; place that byte; no other number there)
-abbrev pub entryFaults : Level → Entry → ℕ → ℕ → List Refusal
+abbrev pub entryFaults : Level → StoredEntry → ℕ → ℕ → List Refusal
 entryFaults l e now n = shows (altered l e now n) 12 n
 
-abbrev pub slotOf : Entry → ℕ → ℕ → Slot
+abbrev pub slotOf : StoredEntry → ℕ → ℕ → Slot
 slotOf e now n = record { pos = n; end = n + e .size; until = now + e .duration; sap = e .sap }

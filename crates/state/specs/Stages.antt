@@ -35,7 +35,8 @@ use Rattle.state.specs.Rows.{gapFaults, innerFaults}
 use Rattle.state.specs.Opening.{spanOf, stepOpening}
 use Rattle.state.specs.Sidx.{under, sidxStart, stepSidx}
 use Rattle.state.specs.Leaf.{leafSo0, stepLeaf}
-use Rattle.state.specs.Levels.{Entry, entryAt, entryPlace, inmost, depth, tookEntry, push, stillOpen, entryFaults, slotOf}
+use Rattle.state.specs.Levels.{entryAt, entryPlace, inmost, depth, tookEntry, push, stillOpen, entryFaults, slotOf}
+use Rattle.state.specs.declared.StoredEntry.{StoredEntry}
 
 abbrev Sub' : Type 0
 Sub' = Sub Stage Top Flow Left
@@ -139,7 +140,7 @@ stepSlot top ls true slot f n b = stepInner top ls slot (inHead at.First) f n b
 stepSlot top ls false slot f n b = stepInLeaf top ls slot (leafBox.Head (leafSo0 (f .last)) at.First) f n b
 
 -- "An entry is read back from the work area when its first byte comes."
-unfoldable pub stepEntry : Top → Levels → Entry → Flow → ℕ → ℕ → Sub'
+unfoldable pub stepEntry : Top → Levels → StoredEntry → Flow → ℕ → ℕ → Sub'
 stepEntry top ls e f n b =
     unless (entryFaults (inmost ls) e (f .now) n) (λ x. bad x (left f)) (stepSlot top (tookEntry ls) (e .inner) (slotOf e (f .now) n) f n b)
 

@@ -206,6 +206,14 @@ pub enum Levels {
     Four(Level, Level, Level, Level),
 }
 
+// An entry as it stands in the work area: whether it is of type 1, and its numbers.
+pub struct StoredEntry {
+    pub inner: bool,
+    pub size: u64,
+    pub duration: u64,
+    pub sap: u64,
+}
+
 // An entry as read back from the work area: where it starts and ends, when it ends, and its SAP word.
 pub struct Slot {
     pub pos: u64,

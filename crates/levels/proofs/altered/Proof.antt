@@ -7,7 +7,6 @@ use lib.Dec.{eqb}
 use borrow.Author.Tests.{eq-eqb, ne-eqb}
 use Rattle.basics.proofs.Picks.{pick-yes, pick-no}
 use Rattle.levels.proofs.Sums.{or-first, or-third, late}
-use Rattle.levels.specs.Views.{entryOf}
 use native.Mathlib.Numerals.{add-one}
 use Rattle.state.specs.Levels.{altered}
 use borrow.Author.Needs.{needs}
@@ -22,7 +21,7 @@ returns-2 : tie.Need-returns-2
 returns-2 c =
     let at-sum-over = c .before in
     let a = at-sum-over .before .before .before .args in
-    late (a .l) (entryOf (a .e)) (a .at) (a .n) (sym (at-sum-over .sum-over .ensures) ∙ c .if2 .taken)
+    late (a .l) (a .e) (a .at) (a .n) (sym (at-sum-over .sum-over .ensures) ∙ c .if2 .taken)
 
 returns-3 : tie.Need-returns-3
 unfolding altered

@@ -4,7 +4,6 @@ use native.Mathlib.Omega.{arith}
 use Rattle.basics.proofs.Picks.{pick-yes, pick-no}
 use Rattle.state.specs.declared.Slot.{Slot}
 use Rattle.levels.specs.declared.EntryRead.the-variants as read
-use Rattle.levels.specs.Views.{entryOf}
 use Rattle.levels.proofs.Sums.{unaltered}
 use borrow.Author.Needs.{needs}
 use Rattle.levels.proofs.entry_answer.Statement.{statement}
@@ -16,7 +15,7 @@ returns c = sym (pick-yes _ _ _ (sym (c .before .altered .ensures) ∙ c .if1 .t
 slot-of-requires : tie.Need-slot-of-requires
 slot-of-requires c κs =
     let a = c .before .before .args in
-    let k = unaltered (a .l) (entryOf (a .e)) (a .at) (a .n) (sym (c .before .altered .ensures) ∙ c .if1 .left) in
+    let k = unaltered (a .l) (a .e) (a .at) (a .n) (sym (c .before .altered .ensures) ∙ c .if1 .left) in
     (omega (arith, k .0), omega (arith, k .1))
 
 returns-2 : tie.Need-returns-2

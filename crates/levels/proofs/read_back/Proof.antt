@@ -1,8 +1,9 @@
 -- `levels::read_back` meets its contract, by those of `next_entry`, `inmost` and `entry_answer`.
 use mathlib.Core.Path.{ap, _∙_}
 use Rattle.state.specs.declared.Level.{Level}
-use Rattle.state.specs.Levels.{Entry, inmost}
-use Rattle.levels.specs.Views.{entryOf, readOf}
+use Rattle.state.specs.Levels.{inmost}
+use Rattle.state.specs.declared.StoredEntry.{StoredEntry}
+use Rattle.levels.specs.Views.{readOf}
 use borrow.Author.Needs.{needs}
 use Rattle.levels.proofs.read_back.Statement.{statement}
 use Rattle.levels.proofs.read_back.Tie as tie
@@ -13,8 +14,8 @@ returns c =
     let at-next-entry = innermost .before in
     let a = at-next-entry .before .before .args in
     c .entry-answer .ensures
-    ∙ ap (λ (l : Level). readOf l (entryOf (at-next-entry .next-entry .result)) (a .at) (a .n)) (innermost .inmost .ensures)
-    ∙ ap (λ (e : Entry). readOf (inmost (a .ls)) e (a .at) (a .n)) (at-next-entry .next-entry .ensures)
+    ∙ ap (λ (l : Level). readOf l (at-next-entry .next-entry .result) (a .at) (a .n)) (innermost .inmost .ensures)
+    ∙ ap (λ (e : StoredEntry). readOf (inmost (a .ls)) e (a .at) (a .n)) (at-next-entry .next-entry .ensures)
 
 pub read-back-spec : {M : Type 1} → statement M
 read-back-spec = tie.close (tie.spec (λ c κs. search needs) (search needs) (search needs) returns)
