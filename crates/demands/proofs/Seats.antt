@@ -20,7 +20,7 @@ use Rattle.basics.specs.Put.{putAll}
 use Rattle.state.specs.Rows.{noRoom}
 use Rattle.state.specs.Traf.{saw}
 use Rattle.demands.specs.Told.{climb}
-use Rattle.covering.specs.Records.{recordOf, recordsOf}
+use Rattle.lookup.specs.Rows.{rowOf, rowsOf}
 use Rattle.demands.specs.Verdict.{Verdict, full, fine, told, seen0, enlist, NotFine, Listing, seat}
 use Rattle.demands.proofs.Stored.{put-length, put-more}
 use Rattle.demands.proofs.Verdicts.{pick-not, told-not}

@@ -31,7 +31,7 @@ use Rattle.state.specs.Stages.{innerLevel, leafRecord}
 use Rattle.descent.specs.Leaf.{leafD}
 use Rattle.descent.specs.Whole.{Under, innerD, slotD, readBackD, entryD, entriesD}
 use Rattle.demands.specs.Told.{climb}
-use Rattle.covering.specs.Records.{recordOf}
+use Rattle.lookup.specs.Rows.{rowOf}
 use Rattle.demands.specs.Verdict.{Verdict, judge, told, seen0, enlist, Meets}
 use Rattle.demands.proofs.Verdicts.{meets-equal, meets-trans, judge-after, judge-not, judge-told, told-then, told-cong, told-meets, enlist-meets, enlist-now, enlist-both}
 use Rattle.demands.proofs.Stored.{Alike, alike-trans, alike-refl, entryFrom, Holds, holds-alike}

@@ -1,5 +1,5 @@
 -- The boxes of the tree walked as the reader walks them: with what is known of the list, and the faults shown.
-use Prim.Native.Nat.{ℕ, zero, suc, _+_, _-_}
+use Prim.Native.Nat.{ℕ, _+_}
 use mathlib.Core.List.{List, [], _∷_}
 use mathlib.Core.Option.{Option, some, none}
 use lib.Dec.{eqb}
