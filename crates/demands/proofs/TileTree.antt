@@ -19,12 +19,12 @@ use Rattle.segment.specs.Tree as tree'
 use Rattle.segment.specs.Tree.{Part, leafPart, leafOf, firstTime, entryParts, tile}
 use Rattle.segment.proofs.NonEmpty.{Sized}
 use Rattle.machine.specs.Faults.{shows, unless}
-use Rattle.machine.specs.Run.{after}
+use Rattle.machine.specs.Run.{Res, after}
 use Rattle.state.specs.declared.Seen.{Seen}
 use Rattle.state.specs.declared.Top.{Top}
 use Rattle.state.specs.declared.Level.{Level}
 use Rattle.state.specs.declared.Slot.{Slot}
-use Rattle.state.specs.Flow.{Flow, withNow, listed, workBytes, levelBytes}
+use Rattle.state.specs.Flow.{Flow, Left, withNow, listed}
 use Rattle.state.specs.Rows.{noRoom}
 use Rattle.state.specs.Levels.{entryAt, altered, slotOf, took}
 use Rattle.state.specs.Stages.{innerLevel, leafRecord}
@@ -88,6 +88,10 @@ unfolding sizes durations
 stands-next l e es n now st =
     record { counted = omega (arith, st .counted); few = st .few; ends = omega (arith, st .ends); lasts = omega (arith, st .lasts); sized = st .sized .1 }
 
+-- what the tree says of parts, with what follows them at the time `t`
+abbrev pub tells : {X : Type 0} → Option (List Part) → Flow → ℕ → (Flow → Verdict X) → Verdict X
+tells parts g t K = told parts (λ ps. enlist ps g (λ g'. K (withNow g' t)))
+
 module _ (X : Type 0) (top : Top) (depth : ℕ) where
   -- A leaf: its record is written where there is room.
   module _ (e : tree.Entry) (f g : Flow) (n : ℕ) (xs ys : List ℕ) (h : Goes X) (K : Flow → Verdict X) (sized : e .size ≡ length xs) (some-bytes : 0 < length xs)
@@ -107,7 +111,8 @@ module _ (X : Type 0) (top : Top) (depth : ℕ) where
     listed-like ts s q =
         let e1 : n + e .size - n ≡ e .size = omega arith in
         let e2 : f .now + e .duration - f .now ≡ e .duration = omega arith in
-        follows (listed f (leafRecord slot (f .now) (s .first)) (slot .until) (s .last)) (withNow (listed g (recordOf (leafOf n (f .now) e ts)) (f .now + e .duration) (s .last)) (f .now + e .duration)) refl (alike-refl _ _)
+        follows (listed f (leafRow slot (f .now) (s .first)) (slot .until) (s .last))
+        (withNow (listed g (rowOf (leafOf n (f .now) e ts)) (f .now + e .duration) (s .last)) (f .now + e .duration)) refl (alike-refl _ _)
         (record { leaves = ap (λ (k : ℕ). suc k) (lk .leaves); now = refl; last = refl; table = rw (e1, e2, q, lk .table, lk .leaves) })
 
     same-room : (t : Bool) → noRoom (f .leaves) (f .table) ≡ t → noRoom (g .leaves) (g .table) ≡ t
@@ -144,26 +149,30 @@ module _ (X : Type 0) (top : Top) (depth : ℕ) where
         at true r = no-room r
         at false r = with-room r
 
+  -- A reading of an entry meets what the tree says of it.
+  abbrev pub Entered : (tree.Entry → Flow → ℕ → List ℕ → Res (Unit {0}) Flow Left) → (tree.Entry → ℕ → ℕ → List ℕ → Option (List Part)) → Type 0
+  Entered read parts = (e : tree.Entry) (f g : Flow) (n : ℕ) (xs ys : List ℕ) (h : Goes X) (K : Flow → Verdict X) → e .size ≡ length xs → 0 < length xs → workBytes ≤ length (f .work) →
+      Like f g → Follows (levelBytes * depth) (f .work) (f .now + e .duration) h (n + e .size) ys K → Meets (judge (read e f n (xs ++ ys)) h) (tells (parts e n (f .now) xs) g (f .now + e .duration) K)
+
   module _ (inner : Under) (underT : tree'.Under) where
     -- an inner index and all that it indexes
     abbrev pub Deeper : Type 0
-    Deeper = (e : tree.Entry) (f g : Flow) (n : ℕ) (xs ys : List ℕ) (h : Goes X) (K : Flow → Verdict X) → e .size ≡ length xs → 0 < length xs → workBytes ≤ length (f .work) →
-        Like f g → Follows (levelBytes * depth) (f .work) (f .now + e .duration) h (n + e .size) ys K →
-        Meets (judge (after (innerD top (slotOf (entryFrom e) (f .now) n) depth f n (xs ++ ys)) (λ x f' m cs. inner (suc depth) (innerLevel x (slotOf (entryFrom e) (f .now) n)) f' m cs)) h)
-        (told (underT n (f .now) (e .duration) xs) (λ is. enlist is g (λ g'. K (withNow g' (f .now + e .duration)))))
+    Deeper = Entered
+        (λ e f n bs. after (innerD top (slotOf (entryFrom e) (f .now) n) depth f n bs) (λ x f' m cs. inner (suc depth) (innerLevel x (slotOf (entryFrom e) (f .now) n)) f' m cs))
+        (λ e n t xs. underT n t (e .duration) xs)
 
     module _ (deeper : Deeper) where
-      slot-meets : (e : tree.Entry) (f g : Flow) (n : ℕ) (xs ys : List ℕ) (h : Goes X) (K : Flow → Verdict X) → e .size ≡ length xs → 0 < length xs → workBytes ≤ length (f .work) →
-          Like f g → Follows (levelBytes * depth) (f .work) (f .now + e .duration) h (n + e .size) ys K →
-          Meets (judge (slotD inner top depth (not (eqb (e .kind) 0)) (slotOf (entryFrom e) (f .now) n) f n (xs ++ ys)) h)
-          (told (entryParts (top .id) underT n (f .now) e xs) (λ is. enlist is g (λ g'. K (withNow g' (f .now + e .duration)))))
+      slot-meets : Entered (λ e f n bs. slotD inner top depth (not (eqb (e .kind) 0)) (slotOf (entryFrom e) (f .now) n) f n bs) (λ e n t xs. entryParts (top .id) underT n t e xs)
       unfolding slotD entryParts pick told judge
       slot-meets e f g n xs ys h K sz some-bytes long lk fo = at (eqb (e .kind) 0)
         where
+          leaf : List ℕ → Option (List Part)
+          leaf ts = some (leafPart (leafOf n (f .now) e ts) ts ∷ [])
+
           at : (t : Bool) → Meets (judge (slotD inner top depth (not t) (slotOf (entryFrom e) (f .now) n) f n (xs ++ ys)) h)
-              (told (pick t (andThen (leafTimes (top .id) xs) (λ times. some (leafPart (leafOf n (f .now) e times) times ∷ []))) (underT n (f .now) (e .duration) xs)) (λ is. enlist is g (λ g'. K (withNow g' (f .now + e .duration)))))
+              (tells (pick t (andThen (leafTimes (top .id) xs) leaf) (underT n (f .now) (e .duration) xs)) g (f .now + e .duration) K)
           at true =
-              rw (judge-after (leafD (top .id) (slotOf (entryFrom e) (f .now) n) f n (xs ++ ys)) _ h, told-then (leafTimes (top .id) xs) (λ times. some (leafPart (leafOf n (f .now) e times) times ∷ [])) (λ is. enlist is g (λ g'. K (withNow g' (f .now + e .duration)))))
+              rw (judge-after (leafD (top .id) (slotOf (entryFrom e) (f .now) n) f n (xs ++ ys)) _ h, told-then (leafTimes (top .id) xs) leaf (λ ps. enlist ps g (λ g'. K (withNow g' (f .now + e .duration)))))
               (leaf-meets e f g n xs ys h K sz some-bytes lk fo)
           at false = deeper e f g n xs ys h K sz some-bytes long lk fo
 
@@ -171,17 +180,19 @@ module _ (X : Type 0) (top : Top) (depth : ℕ) where
       abbrev place : Level → ℕ
       place l = levelBytes * (depth - 1) + entryBytes * l .next
 
-      entry-meets : (l : Level) (e : tree.Entry) (es : List tree.Entry) (f g : Flow) (n : ℕ) (xs ys : List ℕ) (h : Goes X) (K : Flow → Verdict X) → Stands l (e ∷ es) n (f .now) → entryAt (f .work) (place l) ≡ entryFrom e →
-          e .size ≡ length xs → workBytes ≤ length (f .work) → Like f g → Follows (levelBytes * depth) (f .work) (f .now + e .duration) h (n + e .size) ys K →
-          Meets (judge (entryD inner top depth l f n (xs ++ ys)) h) (told (entryParts (top .id) underT n (f .now) e xs) (λ is. enlist is g (λ g'. K (withNow g' (f .now + e .duration)))))
+      entry-meets : (l : Level) (e : tree.Entry) (es : List tree.Entry) (f g : Flow) (n : ℕ) (xs ys : List ℕ) (h : Goes X) (K : Flow → Verdict X) →
+          Stands l (e ∷ es) n (f .now) → entryAt (f .work) (place l) ≡ entryFrom e → e .size ≡ length xs → workBytes ≤ length (f .work) → Like f g →
+          Follows (levelBytes * depth) (f .work) (f .now + e .duration) h (n + e .size) ys K →
+          Meets (judge (entryD inner top depth l f n (xs ++ ys)) h) (tells (entryParts (top .id) underT n (f .now) e xs) g (f .now + e .duration) K)
       unfolding entryD readBackD unless shows
       entry-meets l e es f g n [] ys h K st he sz long lk fo = absurd (omega (arith, st .sized .0))
       entry-meets l e es f g n (x ∷ xs) ys h K st he sz long lk fo =
           rw (he, not-altered l e es n (f .now) st) (slot-meets e f g n (x ∷ xs) ys h K sz (omega arith) long lk fo)
 
-      pub tile-meets : (es : List tree.Entry) (l : Level) (f g : Flow) (n : ℕ) (xs ys : List ℕ) (h : Goes X) (K : Flow → Verdict X) → 1 ≤ depth → Stands l es n (f .now) → Holds (f .work) (place l) es → sizes es ≡ length xs →
-          workBytes ≤ length (f .work) → Like f g → Follows (levelBytes * depth) (f .work) (f .now + durations es) h (n + length xs) ys K →
-          Meets (judge (entriesD inner top depth (length es) l f n (xs ++ ys)) h) (told (tile (top .id) underT n (f .now) es xs) (λ is. enlist is g (λ g'. K (withNow g' (f .now + durations es)))))
+      pub tile-meets : (es : List tree.Entry) (l : Level) (f g : Flow) (n : ℕ) (xs ys : List ℕ) (h : Goes X) (K : Flow → Verdict X) →
+          1 ≤ depth → Stands l es n (f .now) → Holds (f .work) (place l) es → sizes es ≡ length xs → workBytes ≤ length (f .work) → Like f g →
+          Follows (levelBytes * depth) (f .work) (f .now + durations es) h (n + length xs) ys K →
+          Meets (judge (entriesD inner top depth (length es) l f n (xs ++ ys)) h) (tells (tile (top .id) underT n (f .now) es xs) g (f .now + durations es) K)
       unfolding entriesD tile sizes durations told enlist judge
       tile-meets [] l f g n [] ys h K one st ho sz long lk fo =
           let q : n + 0 ≡ n = omega arith in
@@ -193,9 +204,10 @@ module _ (X : Type 0) (top : Top) (depth : ℕ) where
           let lb : length B ≡ e .size = length-take-le (e .size) xs (omega arith) in
           let lr : length R ≡ length xs - e .size = length-drop (e .size) xs in
           let T : ℕ = f .now + (e .duration + durations es) in
-          let rest : Option (List Part) = tile (top .id) underT (n + e .size) (f .now + e .duration) es R in
+          let tiled : ℕ → Option (List Part) = λ t. tile (top .id) underT (n + e .size) t es R in
+          let rest : Option (List Part) = tiled (f .now + e .duration) in
           let h' : Goes X = λ u f' m cs. judge (entriesD inner top depth (length es) (took l) f' m cs) h in
-          let K' : Flow → Verdict X = λ g'. told rest (λ js. enlist js g' (λ g''. K (withNow g'' T))) in
+          let K' : Flow → Verdict X = λ g'. tells rest g' T K in
           let cutAt : xs ++ ys ≡ B ++ (R ++ ys) = ap (λ (z : List ℕ). z ++ ys) (sym (take-append-drop (e .size) xs)) ∙ append-assoc B R ys in
           let next : place l + entryBytes ≡ place (took l) = omega arith in
           let room : place (took l) + entryBytes * length es ≤ levelBytes * depth = omega (arith, st .counted, st .few) in
@@ -203,22 +215,21 @@ module _ (X : Type 0) (top : Top) (depth : ℕ) where
           λ f1 g1 t1 al lk1.
           let q : f1 .now + durations es ≡ T = omega arith in
           let m : n + e .size + length R ≡ n + length xs = omega arith in
-          let go-on : Meets (judge (entriesD inner top depth (length es) (took l) f1 (n + e .size) (R ++ ys)) h) (told (tile (top .id) underT (n + e .size) (f1 .now) es R) (λ is. enlist is g1 (λ g'. K (withNow g' (f1 .now + durations es))))) =
-          tile-meets es (took l) f1 g1 (n + e .size) R ys h K one (rw t1 (stands-next l e es n (f .now) st)) (holds-alike es (place (took l)) al room (rw next at (ho .1))) (omega arith) (omega (arith, al .long)) lk1
-          (λ f2 g2 t2 al2 lk2. rw m (fo f2 g2 (omega arith) (alike-trans al al2) lk2)) in
-          subst (λ (t : ℕ). Meets (judge (entriesD inner top depth (length es) (took l) f1 (n + e .size) (R ++ ys)) h) (told (tile (top .id) underT (n + e .size) t es R) (λ is. enlist is g1 (λ g'. K (withNow g' T))))) t1 (rw q at go-on) in
-          let items : Option (List Part) = entryParts (top .id) underT n (f .now) e B in
+          let go-on : Meets (h' tt f1 (n + e .size) (R ++ ys)) (tells (tiled (f1 .now)) g1 (f1 .now + durations es) K) =
+          tile-meets es (took l) f1 g1 (n + e .size) R ys h K one (rw t1 (stands-next l e es n (f .now) st)) (holds-alike es (place (took l)) al room (rw next at (ho .1)))
+          (omega arith) (omega (arith, al .long)) lk1 (λ f2 g2 t2 al2 lk2. rw m (fo f2 g2 (omega arith) (alike-trans al al2) lk2)) in
+          subst (λ (t : ℕ). Meets (h' tt f1 (n + e .size) (R ++ ys)) (tells (tiled t) g1 T K)) t1 (rw q at go-on) in
+          let parts : Option (List Part) = entryParts (top .id) underT n (f .now) e B in
           let read : Verdict X = judge (entryD inner top depth l f n (B ++ (R ++ ys))) h' in
-          let near : List Part → Verdict X = λ is. enlist is g (λ g'. K' (withNow g' (f .now + e .duration))) in
-          let apart : List Part → Verdict X = λ is. enlist is g (λ g'. told rest (λ js. enlist js g' (λ g''. K (withNow g'' T)))) in
-          let both : Verdict X = told (andThen items (λ is. andThen rest (λ js. some (is ++ js)))) (λ ks. enlist ks g (λ g'. K (withNow g' T))) in
-          let one-entry : Meets read (told items near) = entry-meets l e es f g n B (R ++ ys) h' K' st (ho .0) (sym lb) long lk follows in
-          let same-time : Meets (told items near) (told items apart) =
-          told-meets items near apart
-          (λ is q. enlist-meets is g (λ g'. K' (withNow g' (f .now + e .duration))) (λ g'. told rest (λ js. enlist js g' (λ g''. K (withNow g'' T))))
-          (λ g' w. meets-equal (K' (withNow g' (f .now + e .duration))) (told rest (λ js. enlist js g' (λ g''. K (withNow g'' T))))
-          (told-cong rest (λ js. enlist js (withNow g' (f .now + e .duration)) (λ g''. K (withNow g'' T))) (λ js. enlist js g' (λ g''. K (withNow g'' T))) (λ js r. enlist-now js g' (f .now + e .duration) T K)))) in
-          let joined : Meets (told items apart) both = enlist-both items rest g (λ g'. K (withNow g' T)) in
+          let near : List Part → Verdict X = λ ps. enlist ps g (λ g'. K' (withNow g' (f .now + e .duration))) in
+          let apart : List Part → Verdict X = λ ps. enlist ps g K' in
+          let both : Verdict X = tells (andThen parts (λ ps. andThen rest (λ qs. some (ps ++ qs)))) g T K in
+          let one-entry : Meets read (told parts near) = entry-meets l e es f g n B (R ++ ys) h' K' st (ho .0) (sym lb) long lk follows in
+          let same-time : Meets (told parts near) (told parts apart) =
+          told-meets parts near apart
+          (λ ps q. enlist-meets ps g (λ g'. K' (withNow g' (f .now + e .duration))) K'
+          (λ g' w. meets-equal (K' (withNow g' (f .now + e .duration))) (K' g') (told-cong rest _ _ (λ qs r. enlist-now qs g' (f .now + e .duration) T K)))) in
+          let joined : Meets (told parts apart) both = enlist-both parts rest g (λ g'. K (withNow g' T)) in
           rw (ap (λ (z : List ℕ). judge (after (entryD inner top depth l f n z) (λ u g' m cs. entriesD inner top depth (length es) (took l) g' m cs)) h) cutAt
           ∙ judge-after (entryD inner top depth l f n (B ++ (R ++ ys))) _ h)
-          (meets-trans read (told items near) both one-entry (meets-trans (told items near) (told items apart) both same-time joined))
+          (meets-trans read (told parts near) both one-entry (meets-trans (told parts near) (told parts apart) both same-time joined))
