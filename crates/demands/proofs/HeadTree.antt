@@ -152,7 +152,8 @@ module _ {X : Type 0} (end : ℕ) (f : Flow) (n : ℕ) (xs ys : List ℕ) (k : H
       let m : size - hd ≤ length (drop hd xs) = ltb-false _ _ e' in
       let s : length (take (size - hd) (drop hd xs)) ≡ size - hd = length-take-le (size - hd) (drop hd xs) m in
       let q : size - length (take (size - hd) (drop hd xs)) ≡ hd = omega arith in
-      let z : take (size - hd) (drop hd xs) ++ (drop size xs ++ ys) ≡ drop hd xs ++ ys = sym (append-assoc (take (size - hd) (drop hd xs)) (drop size xs) ys) ∙ ap (λ zs. zs ++ ys) (sym (body-rest xs hd size l)) in
+      let z : take (size - hd) (drop hd xs) ++ (drop size xs ++ ys) ≡ drop hd xs ++ ys =
+      sym (append-assoc (take (size - hd) (drop hd xs)) (drop size xs) ys) ∙ ap (λ zs. zs ++ ys) (sym (body-rest xs hd size l)) in
       rw (clean-sizes end (header n kind size hd), e, le-ltb end (n + size) (omega arith), q, z))))
 
   -- the header reading and the tree, where a box that goes on past the bytes comes to none

@@ -1,6 +1,6 @@
 -- An index entry, read by structure, comes to what the tree says of it, at every level.
 use Prim.Native.Nat.{ℕ, zero, suc, _+_, _-_, _*_, _≤_, _<_}
-use mathlib.Core.Path.{_≡_, refl, ap, sym, subst, _∙_}
+use mathlib.Core.Path.{_≡_, refl, ap, sym, _∙_}
 use mathlib.Core.List.{List, _∷_, _++_}
 use mathlib.Core.Option.{Option, some, none}
 use mathlib.Core.Bool.{Bool, true, false, not}
@@ -22,7 +22,7 @@ use Rattle.state.specs.declared.Span.{Span}
 use Rattle.state.specs.declared.Level.{Level}
 use Rattle.state.specs.declared.Slot.{Slot}
 use Rattle.state.specs.declared.Index.{Index}
-use Rattle.state.specs.Flow.{Flow, Left, withNow, putAll}
+use Rattle.state.specs.Flow.{Flow, Left, putAll}
 use Rattle.state.specs.Rows.{innerFaults}
 use Rattle.state.specs.Opening.{spanOf}
 use Rattle.state.specs.Sidx.{under, partOf}
@@ -106,7 +106,7 @@ module _ (X : Type 0) (top : Top) (k depth : ℕ) (one : 1 ≤ depth) (shallow :
     below x f' m cs = judge (underD (suc k) top (suc depth) (innerLevel x slot) f' m cs) h
 
     abbrev said : List Part → Verdict X
-    said ps = enlist ps g (λ g'. K (withNow g' (f .now + e .duration)))
+    said ps = enlist ps g K
 
     abbrev tiled : Opened → Option (List Part)
     tiled o = tile (top .id) (underIndex (top .id) (top .scale) k) (n + o .box .size) (f .now) (o .index .entries) (o .rest)
@@ -128,12 +128,11 @@ module _ (X : Type 0) (top : Top) (k depth : ℕ) (one : 1 ≤ depth) (shallow :
         let lp : length (putAll (f .work) base part) ≡ length (f .work) = put-length (f .work) base part in
         let at : levelBytes * (suc depth - 1) + entryBytes * 0 ≡ base = omega arith in
         let m : n + o .box .size + length (o .rest) ≡ n + e .size = omega arith in
-        subst (λ (t : ℕ). Meets (below (indexFrom (o .index)) F (n + o .box .size) (o .rest ++ ys)) (told (tiled o) (λ ps. enlist ps g (λ g'. K (withNow g' (f .now + t)))))) du
-        (tile-meets X top (suc depth) (underD k top) (underIndex (top .id) (top .scale) k) deeper es L F g (n + o .box .size) (o .rest) ys h K (omega arith)
+        tile-meets X top (suc depth) (underD k top) (underIndex (top .id) (top .scale) k) deeper es L F g (n + o .box .size) (o .rest) ys h K (omega arith)
         (record { counted = omega arith; few = fa .few; ends = omega arith; lasts = omega arith; sized = fa .sized })
         (rw at (holds (f .work) base (length es) part es (omega (arith, fa .few, fa .part-long)) (omega (arith, fa .part-long)) (fa .part-read)))
-        (omega arith) (omega arith) (record { leaves = lk .leaves; now = lk .now; last = lk .last; table = lk .table })
-        (λ f2 g2 t2 al2 lk2. rw m (fo f2 g2 (omega arith) (alike-trans (put-alike base (f .work) base part (omega arith)) (alike-less (omega arith) al2)) lk2)))
+        (omega arith) (omega arith) (record { leaves = lk .leaves; last = lk .last; table = lk .table })
+        (λ f2 g2 t2 al2 lk2. rw m (fo f2 g2 (omega arith) (alike-trans (put-alike base (f .work) base part (omega arith)) (alike-less (omega arith) al2)) lk2))
 
     entry-deeper : Meets (judge (after (innerD top slot depth f n (xs ++ ys)) (λ x f' m cs. underD (suc k) top (suc depth) (innerLevel x slot) f' m cs)) h)
         (told (underIndex (top .id) (top .scale) (suc k) n (f .now) (e .duration) xs) said)
@@ -155,4 +154,5 @@ at-level X top zero depth q one e f g n xs ys h K sz some-bytes long lk fo =
     rw (judge-after (innerD top slot depth f n (xs ++ ys)) (λ x f' m cs. underD 0 top (suc depth) (innerLevel x slot) f' m cs) h)
     (judge-not (innerD top slot depth f n (xs ++ ys)) _
     (λ x f' m cs r. absurd (too-deep top slot f n (xs ++ ys) x f' m cs (ap (λ (d : ℕ). innerD top slot d f n (xs ++ ys)) (sym four) ∙ r))))
-at-level X top (suc k) depth q one e f g n xs ys h K sz some-bytes long lk fo = entry-deeper X top k depth one (omega arith) (at-level X top k (suc depth) (omega arith) (omega arith)) e f g n xs ys h K sz long lk fo
+at-level X top (suc k) depth q one e f g n xs ys h K sz some-bytes long lk fo =
+    entry-deeper X top k depth one (omega arith) (at-level X top k (suc depth) (omega arith) (omega arith)) e f g n xs ys h K sz long lk fo

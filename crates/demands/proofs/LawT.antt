@@ -42,7 +42,7 @@ use Rattle.demands.proofs.Verdicts.{meets-equal, meets-trans, judge-aft
 use Rattle.demands.proofs.SegmentRun.{S, gap-consumed, top-run}
 use Rattle.demands.proofs.Stored.{put-length, holds}
 use Rattle.demands.proofs.SidxTree.{SidxFacts, sidx-facts}
-use Rattle.demands.proofs.TileTree.{Like, Goes, Follows, tile-meets}
+use Rattle.demands.proofs.TileTree.{Like, Goes, Follows, tells, tile-meets}
 use Rattle.demands.proofs.InnerTree.{at-level}
 use Rattle.demands.proofs.GapTree.{gap-tree, gap-ends}
 use Rattle.demands.proofs.OpeningTree.{atTop, topEnd, topSpan, opening-tree, top-sums}
@@ -100,12 +100,12 @@ module _ (o : Opened) (f0 : Flow) (n : ℕ) (read : tree.sidxIndex (o .box .body
   parts bs = tile (top .id) (underIndex (top .id) (top .scale) 3) (n + x .offset) (x .time) (i .entries) bs
 
   same : Like flow flow
-  same = record { leaves = refl; now = refl; last = refl; table = refl }
+  same = record { leaves = refl; last = refl; table = refl }
 
   -- entries that fill the bytes `A`, with the bytes `B` after them
   entries-meet : {X : Type 0} (A B : List ℕ) (h : Goes X) (K : Flow → Verdict X) → sizes (i .entries) ≡ length A →
       Follows (levelBytes * 1) (flow .work) (x .time + durations (i .entries)) h (n + x .offset + length A) B K →
-      Meets (under (A ++ B) h) (told (parts A) (λ is. enlist is flow (λ g. K (withNow g (x .time + durations (i .entries))))))
+      Meets (under (A ++ B) h) (tells (parts A) flow K)
   unfolding underD partOf
   entries-meet {X} A B h K sz fo =
       let fa : SidxFacts body i = sidx-facts body i read in
@@ -222,7 +222,8 @@ module _ (o : Opened) (f0 : Flow) (n : ℕ) (read : tree.sidxIndex (o .box .body
     right-length e =
         let lb : length B ≡ length (o .rest) - x .offset = length-drop (x .offset) (o .rest) in
         let q : all - length B ≡ n + x .offset = omega arith in
-        ap (λ (z : Option (List ℕ)). told (andThen z tiled) (seated (f0 .table))) (pick-yes (eqb (length (o .rest)) (i .offset + sizes (i .entries))) _ _ (eq-eqb (length (o .rest)) (i .offset + sizes (i .entries)) e))
+        ap (λ (z : Option (List ℕ)). told (andThen z tiled) (seated (f0 .table)))
+        (pick-yes (eqb (length (o .rest)) (i .offset + sizes (i .entries))) _ _ (eq-eqb (length (o .rest)) (i .offset + sizes (i .entries)) e))
         ∙ told-then (andThen (gapBoxes A) (λ gap. some B)) tiled (seated (f0 .table))
         ∙ told-then (gapBoxes A) (λ gap. some B) (λ ys. told (tiled ys) (seated (f0 .table)))
         ∙ told-cong (gapBoxes A) (λ gap. told (tiled B) (seated (f0 .table))) (λ gap. told (parts B) (said (f0 .table)))

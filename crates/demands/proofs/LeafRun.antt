@@ -139,4 +139,5 @@ module _ (id : ℕ) where
   -- a leaf, from its first byte on
   pub leaf-run : (slot : Slot) (f : Flow) (n : ℕ) (bs : List ℕ) → leafD id slot f n bs ≡ run left (stepLeaf id slot) (leafBox.Head (leafSo0 (f .last)) at.First) f n bs
   leaf-run slot f n bs =
-      boxes-run (leafBoxes id slot) wrapLeaf (stepLeaf id slot) (leaf-steps slot) (λ a. refl) (λ so. leafBodyD id (so .seen)) (λ so. leaf-body (so .seen)) (length bs) (leafSo0 (f .last)) f n bs (omega arith)
+      boxes-run (leafBoxes id slot) wrapLeaf (stepLeaf id slot) (leaf-steps slot) (λ a. refl) (λ so. leafBodyD id (so .seen)) (λ so. leaf-body (so .seen))
+      (length bs) (leafSo0 (f .last)) f n bs (omega arith)

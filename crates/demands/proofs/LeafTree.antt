@@ -233,7 +233,8 @@ module _ {X : Type 0} (f : Flow) where
   moof-body : (id : ℕ) (seen : Seen) (b : Box) (pos : ℕ) (zs : List ℕ) (k : Passed → Flow → ℕ → List ℕ → Option X) → headLength b + length (b .body) ≡ b .size →
       upon (moofBodyD id seen (headerOf pos b) f (pos + headLength b) (b .body ++ zs)) k ≡ andThen (moofItem id seen pos b) (λ r. k r f (pos + b .size) zs)
   unfolding moofBodyD moofItem
-  moof-body id seen b pos zs k e = passed-body traf (trafD id (spanOf (headerOf pos b)) seen f) (trafTimes id (b .body)) seen b pos zs k e (traf-tree id (spanOf (headerOf pos b)) seen (pos + headLength b) (b .body) zs _)
+  moof-body id seen b pos zs k e =
+      passed-body traf (trafD id (spanOf (headerOf pos b)) seen f) (trafTimes id (b .body)) seen b pos zs k e (traf-tree id (spanOf (headerOf pos b)) seen (pos + headLength b) (b .body) zs _)
 
   -- A `moof`.
   pub moof-tree : (id end : ℕ) (seen : Seen) (n : ℕ) (xs ys : List ℕ) (k : Seen → Flow → ℕ → List ℕ → Option X) → end ≡ n + length xs →
@@ -266,7 +267,8 @@ leaf-tree id slot f n xs ys k e some' room =
     (λ so r. leafLacks slot (leafNow so r) (left f)) (λ so r m. refl) (λ so r. refl)
     (length (xs ++ ys)) (leafSo0 (f .last)) n xs ys k some' e (omega arith)
     ∙ then-cong (boxes xs) _ _ (λ bs q. leaf-walk id slot f room (f .last) n bs (λ s. k s f (slot .end) ys))
-    ∙ sym (then-assoc (leafBoxes xs) _ _ ∙ then-assoc (boxes xs) _ _ ∙ then-cong (boxes xs) _ _ (λ bs q. then-cong (provided (without (styp ∷ sidx ∷ []) bs) (provided (moofFirst bs) (some bs))) _ _ (λ cs q'. then-assoc (gather moof (moofTimes id) cs) nonEmpty _)))
+    ∙ sym (then-assoc (leafBoxes xs) _ _ ∙ then-assoc (boxes xs) _ _
+    ∙ then-cong (boxes xs) _ _ (λ bs q. then-cong (provided (without (styp ∷ sidx ∷ []) bs) (provided (moofFirst bs) (some bs))) _ _ (λ cs q'. then-assoc (gather moof (moofTimes id) cs) nonEmpty _)))
 
 -- The first time that a leaf shows is the first of its times.
 pub leaf-first : (id last : ℕ) (xs ts : List ℕ) (s : Seen) → leafTimes id xs ≡ some ts → climb (leafSo0 last .seen) ts ≡ some s → s .first ≡ firstTime ts

@@ -76,7 +76,8 @@ module _ {A B R Q X : Type 0} (l : Boxes A B R Q Flow Left) (bodyD : A → Heade
     (lefts : (a : A) → l .box a .left ≡ left)
     (ends : (a : A) → l .box a .end ≡ end)
     (shown : (a : A) (h : Header) → l .box a .shown h f ≡ w .shown a h)
-    (law : (a : A) (b : Box) (pos : ℕ) (zs : List ℕ) (k : R → Flow → ℕ → List ℕ → Option X) → 8 ≤ headLength b → headLength b + length (b .body) ≡ b .size → clean (w .shown a (headerOf pos b)) ≡ true →
+    (law : (a : A) (b : Box) (pos : ℕ) (zs : List ℕ) (k : R → Flow → ℕ → List ℕ → Option X) →
+    8 ≤ headLength b → headLength b + length (b .body) ≡ b .size → clean (w .shown a (headerOf pos b)) ≡ true →
     upon (bodyD a (headerOf pos b) f (pos + headLength b) (b .body ++ zs)) k ≡ andThen (w .item a pos b) (λ r. k r f (pos + b .size) zs))
     (last : A → R → List Refusal)
     (closes : (a : A) (r : R) (n : ℕ) → l .close a r f n ≡ pick (eqb n end) (over (result (w .next a r)) (last a r)) (again (w .next a r) (w .ends a r)))
@@ -131,7 +132,8 @@ module _ {A B R Q X : Type 0} (l : Boxes A B R Q Flow Left) (bodyD : A → Heade
       list-by turns j (w .next a r) (n + b .size) (drop (b .size) xs) ys h more (omega arith) (omega arith)
       (omega (arith, length-append (drop (b .size) xs) ys, length-append xs ys)))))
       (λ faulty. refl)
-      ∙ swap (cut j (drop (b .size) xs)) (clean (w .shown a (headerOf n b))) (w .item a n b) (λ r. clean (w .ends a r)) (λ r bs. walk w (w .next a r) (n + b .size) bs) (tell w result lacks end f h ys))
+      ∙ swap (cut j (drop (b .size) xs)) (clean (w .shown a (headerOf n b))) (w .item a n b) (λ r. clean (w .ends a r))
+      (λ r bs. walk w (w .next a r) (n + b .size) bs) (tell w result lacks end f h ys))
       ∙ sym (told-cons w result lacks end f j a n xs ys h some')
 
   -- From a box's first byte on, in bytes that end where the list does: as many turns as there are bytes are enough.

@@ -57,7 +57,8 @@ module _ (brand : ℕ) where
       number span styps.Major false _ (length bs)
       (λ v g m cs l. number span styps.Minor false _ (length cs) (λ u h k ds l'. brands (suc (length ds)) span false h k ds (omega arith)) g m cs (omega arith)) f n bs (omega arith)
 
-  index-run : (span : Span) (f : Flow) (n : ℕ) (bs : List ℕ) → after (cont left (stepSidx topmost span) n bs (go sidxStart f)) (λ x g m cs. okay (indexed x) g m cs) ≡ O n bs (go (body.Index span sidxStart) f)
+  index-run : (span : Span) (f : Flow) (n : ℕ) (bs : List ℕ) →
+      after (cont left (stepSidx topmost span) n bs (go sidxStart f)) (λ x g m cs. okay (indexed x) g m cs) ≡ O n bs (go (body.Index span sidxStart) f)
   unfolding stepOpeningBody contBy lift
   index-run span f n bs = sym (inside left (stepSidx topmost span) (stepOpeningBody brand) (body.Index span) (λ m x g. done (indexed x) g) (λ s g n' b. refl) n bs (go sidxStart f))
 

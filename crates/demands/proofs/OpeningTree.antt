@@ -78,7 +78,8 @@ pub skip-body : {R X : Type 0} (r : R) (f : Flow) (b : Box) (pos : ℕ) (zs : Li
 unfolding upon either
 skip-body r f b pos zs k e =
     let q : pos + headLength b + (boxEnd (headerOf pos b) - (pos + headLength b)) ≡ pos + b .size = omega arith in
-    ap (λ (x : Res (Unit {0}) Flow Left). upon (after x (λ u g m cs. okay r g m cs)) k) (skip-whole left (boxEnd (headerOf pos b) - (pos + headLength b)) f (pos + headLength b) (b .body) zs (omega arith))
+    ap (λ (x : Res (Unit {0}) Flow Left). upon (after x (λ u g m cs. okay r g m cs)) k)
+    (skip-whole left (boxEnd (headerOf pos b) - (pos + headLength b)) f (pos + headLength b) (b .body) zs (omega arith))
     ∙ ap (λ m. k r f m zs) q
 
 module _ {X : Type 0} (brand : ℕ) (f : Flow) where

@@ -77,8 +77,9 @@ unfolding room
 room-put table i xs = rw (put-length table i xs)
 
 -- leaves that the table has room for
-pub seat-fits : (ls : List Leaf) (n : ℕ) (table : List ℕ) → n + length ls ≤ room table → seat ls n table ≡ fine (record { leaves = n + length ls; table = putAll table (recordNumbers * n) (recordsOf ls) })
-unfolding seat putAll recordsOf pick
+pub seat-fits : (ls : List Leaf) (n : ℕ) (table : List ℕ) → n + length ls ≤ room table →
+    seat ls n table ≡ fine (record { leaves = n + length ls; table = putAll table (recordNumbers * n) (rowsOf ls) })
+unfolding seat putAll rowsOf pick
 seat-fits [] n table h = let q : n + 0 ≡ n = omega arith in rw q
 seat-fits (l ∷ ls) n table h =
     let next : List ℕ = putRecord table n (recordOf l) in

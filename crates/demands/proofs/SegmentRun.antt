@@ -43,9 +43,9 @@ use Rattle.state.specs.Rows.{is, topLengths, innerFaults}
 use Rattle.state.specs.Opening.{spanOf, stepOpening}
 use Rattle.state.specs.Sidx.{under, sidxStart, stepSidx}
 use Rattle.state.specs.Leaf.{leafSo0, stepLeaf}
-use Rattle.state.specs.Levels.{entryAt, entryPlace, inmost, depth, took, tookEntry, push, passedAll, stillOne, stillTwo, stillThree, stillOpen, entryFaults, slotOf}
-use Rattle.state.specs.declared.StoredEntry.{StoredEntry}
-use Rattle.state.specs.Stages.{gapKind, gapBoxes, wrapGap, stepGap, onward, follow, topOf, topLevel, indexEnds, InnerBody, innerKind, beginInner, wrapInner, innerLevel, liftInner, stepInner, leafRecord, liftLeaf, stepSlot, stepEntry, stepStage}
+use Rattle.state.specs.Levels.{Entry, entryAt, entryPlace, inmost, depth, took, tookEntry, push, passedAll, stillOne, stillTwo, stillThree, stillOpen, entryFaults, slotOf}
+use Rattle.state.specs.Stages.{gapKind, gapBoxes, wrapGap, stepGap, onward, follow, topOf, topLevel, indexEnds}
+use Rattle.state.specs.Stages.{InnerBody, innerKind, beginInner, wrapInner, innerLevel, liftInner, stepInner, leafRow, liftLeaf, stepSlot, stepEntry, stepStage}
 use Rattle.state.specs.Step.{stage0}
 use Rattle.descent.specs.Sidx.{sidxD}
 use Rattle.descent.specs.Opening.{skipTo}
@@ -88,7 +88,8 @@ module _ (top : Top) (slot : Slot) (around : ℕ) where
   inner-body h f n bs =
       sidx-run (under top slot around) (spanOf h) f n bs
       ∙ sym (after-okay (cont left (stepSidx (under top slot around) (spanOf h)) n bs (go sidxStart f)))
-      ∙ sym (inside left (stepSidx (under top slot around) (spanOf h)) (innerKind top slot around .body) (λ s. record { span = spanOf h; sidx = s }) (λ m. done) (λ s g m b. refl) n bs (go sidxStart f))
+      ∙ sym (inside left (stepSidx (under top slot around) (spanOf h)) (innerKind top slot around .body) (λ s. record { span = spanOf h; sidx = s }) (λ m. done)
+      (λ s g m b. refl) n bs (go sidxStart f))
 
   inner-run : (f : Flow) (n : ℕ) (bs : List ℕ) → innerD top slot around f n bs ≡ run left (stepBox (innerKind top slot around)) (inHead at.First) f n bs
   inner-run f n bs = box-run (innerKind top slot around) (λ h g m cs. sidxD (under top slot around) (spanOf h) g m cs) inner-body f n bs
@@ -99,7 +100,8 @@ unfolding innerFaults
 deep-faults h e =
     let a = none-second (topLengths h) _ e in
     let b = none-second (shows (is h styp) 7 (h .pos)) _ a in
-    at (is h sidx) (shows-none (not (is h sidx)) 9 (h .pos) (none-first (shows (not (is h sidx)) 9 (h .pos)) _ b)) (shows-none (is h sidx && leb mostLevels 4) 13 (h .pos) (none-second (shows (not (is h sidx)) 9 (h .pos)) _ b))
+    at (is h sidx) (shows-none (not (is h sidx)) 9 (h .pos) (none-first (shows (not (is h sidx)) 9 (h .pos)) _ b))
+    (shows-none (is h sidx && leb mostLevels 4) 13 (h .pos) (none-second (shows (not (is h sidx)) 9 (h .pos)) _ b))
   where
     at : (t : Bool) → not t ≡ false → (t && leb mostLevels 4) ≡ false → ⊥
     at true p q = true≢false q
@@ -135,10 +137,12 @@ unfolding stepStage
 in-gap top l end n bs r = inside left (stepGap end) stepStage (stage.Gap top l end) (λ m u g. follow top (levels.One l) g) (λ s g m b. refl) n bs r
 
 in-leaf : (top : Top) (ls : Levels) (slot : Slot) (n : ℕ) (bs : List ℕ) (r : Sub LeafBoxes Seen Flow Left) →
-    S n bs (liftLeaf top ls slot r) ≡ after (cont left (stepLeaf (top .id) slot) n bs r) (λ seen g m cs. S m cs (follow top ls (listed g (leafRecord slot (g .now) (seen .first)) (slot .until) (seen .last))))
+    S n bs (liftLeaf top ls slot r)
+    ≡ after (cont left (stepLeaf (top .id) slot) n bs r) (λ seen g m cs. S m cs (follow top ls (listed g (leafRow slot (g .now) (seen .first)) (slot .until) (seen .last))))
 unfolding stepStage
 in-leaf top ls slot n bs r =
-    inside left (stepLeaf (top .id) slot) stepStage (stage.Leaf top ls slot) (λ m seen g. follow top ls (listed g (leafRecord slot (g .now) (seen .first)) (slot .until) (seen .last))) (λ s g m b. refl) n bs r
+    inside left (stepLeaf (top .id) slot) stepStage (stage.Leaf top ls slot) (λ m seen g. follow top ls (listed g (leafRow slot (g .now) (seen .first)) (slot .until) (seen .last)))
+    (λ s g m b. refl) n bs r
 
 inner-steps : (top : Top) (ls : Levels) (slot : Slot) (s : Box InnerBody) (f : Flow) (n b : ℕ) → stepStage (stage.Inner top ls slot (wrapInner s)) f n b ≡ stepInner top ls slot s f n b
 unfolding stepStage
@@ -232,8 +236,9 @@ module _ (top : Top) where
         ∙ sym (after-assoc (innerD top slot (depth ls) f n (b ∷ bs)) (λ x g m cs. inner (suc (depth ls)) (innerLevel x slot) g m cs) next)
     slot-run false slot f n b bs =
         in-leaf top (tookEntry ls) slot (suc n) bs (stepLeaf (top .id) slot (leafBox.Head (leafSo0 (f .last)) at.First) f n b)
-        ∙ ap (λ (r : Res Seen Flow Left). after r (λ seen g m cs. next tt (listed g (leafRecord slot (g .now) (seen .first)) (slot .until) (seen .last)) m cs)) (sym (leaf-run (top .id) slot f n (b ∷ bs)))
-        ∙ sym (after-assoc (leafD (top .id) slot f n (b ∷ bs)) (λ seen g m cs. okay tt (listed g (leafRecord slot (g .now) (seen .first)) (slot .until) (seen .last)) m cs) next)
+        ∙ ap (λ (r : Res Seen Flow Left). after r (λ seen g m cs. next tt (listed g (leafRow slot (g .now) (seen .first)) (slot .until) (seen .last)) m cs))
+        (sym (leaf-run (top .id) slot f n (b ∷ bs)))
+        ∙ sym (after-assoc (leafD (top .id) slot f n (b ∷ bs)) (λ seen g m cs. okay tt (listed g (leafRow slot (g .now) (seen .first)) (slot .until) (seen .last)) m cs) next)
 
     entry-run : (f : Flow) (n : ℕ) (bs : List ℕ) → run left stepStage (stage.Entry top ls) f n bs ≡ after (entryD inner top (depth ls) (inmost ls) f n bs) next
     unfolding run stepStage stepEntry entryD readBackD either contBy
@@ -242,7 +247,8 @@ module _ (top : Top) where
         let e : StoredEntry = entryAt (f .work) (entryPlace ls) in
         unless-both (S (suc n) bs) (λ r. after r next) _ _ _ _ (entryFaults (inmost ls) e (f .now) n) (λ x. refl) (slot-run (e .inner) (slotOf e (f .now) n) f n b bs)
 
-  entries-run : (inner : Under) (k : ℕ) (ls : Levels) → k + inmost ls .next ≡ inmost ls .count → ((ms : Levels) → depth ms ≡ depth ls → depth ms < 4 → Opens inner ms) → (f : Flow) (n : ℕ) (bs : List ℕ) →
+  entries-run : (inner : Under) (k : ℕ) (ls : Levels) → k + inmost ls .next ≡ inmost ls .count → ((ms : Levels) → depth ms ≡ depth ls → depth ms < 4 → Opens inner ms) →
+      (f : Flow) (n : ℕ) (bs : List ℕ) →
       S n bs (follow top ls f) ≡ after (entriesD inner top (depth ls) k (inmost ls) f n bs) (rest (outerOpen ls))
   unfolding entriesD either onward contBy
   entries-run inner zero ls e ih f n bs = ap (λ o. S n bs (onward top o f)) (still ls ∙ pick-yes (passedAll (inmost ls)) _ _ (eq-eqb (inmost ls .next) (inmost ls .count) (omega arith)))
@@ -280,7 +286,8 @@ material-run x f n bs =
     (top-run (topOf x) (topLevel x n) refl (withNow f (x .time)) n bs)
     (in-gap (topOf x) (topLevel x n) (n + x .offset) n bs (go (gaps.Head at.First) (withNow f (x .time)))
     ∙ ap (λ (r : Res (Unit {0}) Flow Left). after r (λ u g m cs. S m cs (follow (topOf x) (levels.One (topLevel x n)) g))) (sym (gap-run (n + x .offset) (withNow f (x .time)) n bs))
-    ∙ after-cong (boxesD (gapBoxes (n + x .offset)) (λ u h g m cs. skipTo tt (boxEnd h) g m cs) (length bs) tt (withNow f (x .time)) n bs) _ K (λ u g m cs e. top-run (topOf x) (topLevel x n) refl g m cs))
+    ∙ after-cong (boxesD (gapBoxes (n + x .offset)) (λ u h g m cs. skipTo tt (boxEnd h) g m cs) (length bs) tt (withNow f (x .time)) n bs) _ K
+    (λ u g m cs e. top-run (topOf x) (topLevel x n) refl g m cs))
 
 -- the whole segment
 pub segment-run : (brand : ℕ) (f : Flow) (n : ℕ) (bs : List ℕ) → segmentD brand f n bs ≡ run left stepStage (stage0 brand) f n bs

@@ -24,7 +24,8 @@ use Rattle.state.specs.declared.EntryPart.the-variants as entry
 use Rattle.state.specs.declared.Sidx.{Sidx}
 use Rattle.state.specs.declared.Sidx.the-variants as sidx
 use Rattle.state.specs.Flow.{Flow, Left, left}
-use Rattle.state.specs.Sidx.{Place, draft0, sidxStart, sidxVersionFaults, idFaults, scaleFaults, timeFaults, offsetFaults, countFaults, sumFaults, wideMore, indexOf, closeSidx, fieldEnds, entrySizeFaults, plusSize, plusDuration, nextEntry, entryEnds, keepByte, stepSidx}
+use Rattle.state.specs.Sidx.{sidxVersionFaults, idFaults, scaleFaults, timeFaults, offsetFaults, countFaults, sumFaults, entrySizeFaults}
+use Rattle.state.specs.Sidx.{Place, draft0, sidxStart, wideMore, indexOf, closeSidx, fieldEnds, plusSize, plusDuration, nextEntry, entryEnds, keepByte, stepSidx}
 use Rattle.descent.specs.Sidx.{closeD, entryD, entriesD, countedD, countD, reservedD, offsetD, timeD, scaleD, idD, flagsD, versionD, sidxD}
 
 module _ (p : Place) (span : Span) where
@@ -68,9 +69,11 @@ module _ (p : Place) (span : Span) where
       one-entry d s _ (λ t g m cs q q' v. close (indexOf d t) g m cs ∙ ap (X m cs) (sym (pick-yes (eqb (suc (t .next)) (t .count)) _ _ (eq-eqb (suc (t .next)) (t .count) (omega arith))))) f n bs
   entries d (suc k) s e f n bs =
       one-entry d s _
-      (λ t g m cs q q' v. entries d k (nextEntry t) (omega arith) g m cs ∙ ap (X m cs) (sym (pick-no (eqb (suc (t .next)) (t .count)) _ _ (ne-eqb (suc (t .next)) (t .count) (λ z. omega arith))))) f n bs
+      (λ t g m cs q q' v. entries d k (nextEntry t) (omega arith) g m cs
+      ∙ ap (X m cs) (sym (pick-no (eqb (suc (t .next)) (t .count)) _ _ (ne-eqb (suc (t .next)) (t .count) (λ z. omega arith))))) f n bs
 
-  counted : (d : Draft) (v : ℕ) (f : Flow) (n : ℕ) (bs : List ℕ) → eqb v 0 ≡ false → countedD p span d v v f n bs ≡ X n bs (go (sidx.Entry entry.Size d (record { next = 0; count = v; sizes = 0; durations = 0 }) 3 0) f)
+  counted : (d : Draft) (v : ℕ) (f : Flow) (n : ℕ) (bs : List ℕ) → eqb v 0 ≡ false →
+      countedD p span d v v f n bs ≡ X n bs (go (sidx.Entry entry.Size d (record { next = 0; count = v; sizes = 0; durations = 0 }) 3 0) f)
   unfolding countedD
   counted d zero f n bs e = absurd (true≢false e)
   counted d (suc k) f n bs e = entries d k (record { next = 0; count = suc k; sizes = 0; durations = 0 }) (omega arith) f n bs

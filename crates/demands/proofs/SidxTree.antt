@@ -34,9 +34,9 @@ use Rattle.state.specs.declared.Sums.{Sums}
 use Rattle.state.specs.declared.Index.{Index}
 use Rattle.state.specs.declared.EntryPart.{EntryPart}
 use Rattle.state.specs.declared.EntryPart.the-variants as entry
-use Rattle.state.specs.Flow.{Flow, Left, left, withWork}
-use Rattle.basics.specs.Put.{putAll}
-use Rattle.state.specs.Sidx.{Place, topmost, under, partOf, sidxVersionFaults, idFaults, scaleFaults, timeFaults, offsetFaults, countFaults, sumFaults, wideMore, indexOf, sizeOf, entrySizeFaults, plusSize, plusDuration, nextEntry, wordPlace, numberPlace, keepByte}
+use Rattle.state.specs.Flow.{Flow, Left, left, withWork, putAll}
+use Rattle.state.specs.Sidx.{sidxVersionFaults, idFaults, scaleFaults, timeFaults, offsetFaults, countFaults, sumFaults, entrySizeFaults}
+use Rattle.state.specs.Sidx.{Place, topmost, under, partOf, wideMore, indexOf, sizeOf, plusSize, plusDuration, nextEntry, wordPlace, numberPlace, keepByte}
 use Rattle.descent.specs.Sidx.{closeD, entryD, entriesD, countedD, countD, reservedD, offsetD, timeD, scaleD, idD, flagsD, versionD, sidxD}
 use Rattle.demands.specs.Told.{upon, clean, indexFrom, entryPart, withEntries, suits}
 use Rattle.demands.proofs.Upons.{each-any, upon-unless, upon-okay, clean-append, clean-shows, upon-field}
@@ -214,7 +214,8 @@ module _ (t : Bool) (xs : List ℕ) where
       )
 
 -- a number that was read had its bytes there
-field-inv : {A : Type 0} (m : ℕ) (xs : List ℕ) (g : Field → Option A) (a : A) → andThen (field m xs) g ≡ some a → (m ≤ length xs) × (g (record { value = number (take m xs); rest = drop m xs }) ≡ some a)
+field-inv : {A : Type 0} (m : ℕ) (xs : List ℕ) (g : Field → Option A) (a : A) → andThen (field m xs) g ≡ some a →
+    (m ≤ length xs) × (g (record { value = number (take m xs); rest = drop m xs }) ≡ some a)
 field-inv m xs g a e =
     ⊎-elim (λ (few : length xs < m). absurd-some (sym (field-none m xs g few) ∙ e)) (λ (l : m ≤ length xs). (l, sym (then-goes (field m xs) g _ (field-some m xs l)) ∙ e)) (lt-or-ge (length xs) m)
 
@@ -387,7 +388,8 @@ version-long span n true xs e r = le-ltb (span .end) (n + 1 + 31) (omega (arith,
 version-long span n false xs e r = refl
 
 -- an index of the tree has a version that shows no fault
-version-right : (span : Span) (n : ℕ) (xs : List ℕ) (i : tree.Index) → n + length xs ≡ span .end → sidxIndex xs ≡ some i → not (ltb 1 (versionHere xs)) && not (wideHere xs && ltb (span .end) (n + 1 + 31)) ≡ true
+version-right : (span : Span) (n : ℕ) (xs : List ℕ) (i : tree.Index) → n + length xs ≡ span .end → sidxIndex xs ≡ some i →
+    not (ltb 1 (versionHere xs)) && not (wideHere xs && ltb (span .end) (n + 1 + 31)) ≡ true
 version-right span n xs i e found =
     let f = sidx-inv xs i found in
     rw (le-ltb 1 (versionHere xs) (version-small (versionHere xs) _ (f .version-known)), version-long span n (wideHere xs) xs e (f .rooms-there))
@@ -422,7 +424,9 @@ module _ {X : Type 0} (p : Place) (span : Span) (h : Index → Flow → ℕ → 
       rw (q, three-words (f .work) base zs l, d) in
       word-upon entry.Size s _ f n zs ys (omega arith)
       ∙ upon-shows (eqb (sizeOf word) 0) 11 (span .pos) _ _ _ h (told (entryHere zs))
-      (word-upon entry.Duration (plusSize s word) (λ duration g m cs. fieldD left (keepByte p entry.Sap (plusDuration (plusSize s word) duration)) (λ sap i o es. more (plusDuration (plusSize s word) duration) i o es) 4 0 g m cs) f1 (n + 4) (drop 4 zs) ys (omega arith)
+      (word-upon entry.Duration (plusSize s word)
+      (λ duration g m cs. fieldD left (keepByte p entry.Sap (plusDuration (plusSize s word) duration)) (λ sap i o es. more (plusDuration (plusSize s word) duration) i o es) 4 0 g m cs)
+      f1 (n + 4) (drop 4 zs) ys (omega arith)
       ∙ word-upon entry.Sap (plusDuration (plusSize s word) dur) (λ sap i o es. more (plusDuration (plusSize s word) dur) i o es) f2 (n + 4 + 4) (drop 4 (drop 4 zs)) ys (omega arith)
       ∙ last)
       ∙ sym (ap (λ o. andThen o told) (entry-here zs l) ∙ pick-then (eqb (sizeOf word) 0) (some (entryHere zs)) told)
@@ -502,7 +506,8 @@ module _ {X : Type 0} (p : Place) (span : Span) (h : Index → Flow → ℕ → 
       ≡ pick (eqb v 0) none (pick (ltb mostEntries v) none (pick (eqb (length zs) (entryBytes * v)) (andThen (entriesOf v zs) (summed d f zs ys)) none))
   unfolding countD countFaults
   count-tree d v f n zs ys e =
-      let same : eqb (span .end) (n + entryBytes * v) ≡ eqb (length zs) (entryBytes * v) = same-test (span .end) (n + entryBytes * v) (length zs) (entryBytes * v) (λ q. omega arith) (λ q. omega arith) in
+      let same : eqb (span .end) (n + entryBytes * v) ≡ eqb (length zs) (entryBytes * v) =
+      same-test (span .end) (n + entryBytes * v) (length zs) (entryBytes * v) (λ q. omega arith) (λ q. omega arith) in
       let tests : clean (countFaults span v n) ≡ not (not (eqb (length zs) (entryBytes * v))) && not (eqb v 0 || ltb mostEntries v) =
       clean-append (shows (not (eqb (span .end) (n + entryBytes * v))) 6 (span .pos)) _
       ∙ rw (clean-shows (not (eqb (span .end) (n + entryBytes * v))) 6 (span .pos), clean-shows (eqb v 0 || ltb mostEntries v) 11 (span .pos), same) in
@@ -568,7 +573,8 @@ module _ {X : Type 0} (p : Place) (span : Span) (h : Index → Flow → ℕ → 
       (pick (ltb mostEntries (countHere t xs)) none
       (pick (eqb (length (atEntries t xs)) (entryBytes * countHere t xs))
       (andThen (entriesOf (countHere t xs) (atEntries t xs)) (λ es.
-      pick (clean (idFaults p span (idHere t xs)) && clean (scaleFaults p span (scaleHere t xs)) && clean (timeFaults p span (f .now) (timeHere t xs)) && clean (offsetFaults p span (offsetHere t xs)) && clean (sumFaults p span (indexFrom (treeIndex (draftHere t xs) es)) (f .now) (span .end)))
+      pick (clean (idFaults p span (idHere t xs)) && clean (scaleFaults p span (scaleHere t xs)) && clean (timeFaults p span (f .now) (timeHere t xs))
+      && clean (offsetFaults p span (offsetHere t xs)) && clean (sumFaults p span (indexFrom (treeIndex (draftHere t xs) es)) (f .now) (span .end)))
       (h (indexFrom (treeIndex (draftHere t xs) es)) (putInto f (partOf p) (atEntries t xs)) (span .end) ys) none))
       none)))
   unfolding suits andThen
@@ -597,7 +603,8 @@ module _ {X : Type 0} (p : Place) (span : Span) (h : Index → Flow → ℕ → 
       let t : Bool = wideHere xs in
       let r : Rooms t xs = rooms t xs l in
       numbers-tree t f n xs ys e r
-      ∙ all-tests (clean (idFaults p span (idHere t xs))) (clean (scaleFaults p span (scaleHere t xs))) (clean (timeFaults p span (f .now) (timeHere t xs))) (clean (offsetFaults p span (offsetHere t xs)))
+      ∙ all-tests (clean (idFaults p span (idHere t xs))) (clean (scaleFaults p span (scaleHere t xs))) (clean (timeFaults p span (f .now) (timeHere t xs)))
+      (clean (offsetFaults p span (offsetHere t xs)))
       (eqb (scaleHere t xs) 0) (eqb (countHere t xs) 0) (ltb mostEntries (countHere t xs)) (eqb (length (atEntries t xs)) (entryBytes * countHere t xs)) (entriesOf (countHere t xs) (atEntries t xs))
       (λ es. clean (sumFaults p span (indexFrom (treeIndex (draftHere t xs) es)) (f .now) (span .end)))
       (λ es. h (indexFrom (treeIndex (draftHere t xs) es)) (putInto f (partOf p) (atEntries t xs)) (span .end) ys) (scale-some p span (scaleHere t xs))
@@ -775,4 +782,5 @@ suits-under top slot around span i now l =
       clean-shows (not (eqb (span .end + sizes (i .entries)) (slot .end) && eqb (now + durations (i .entries)) (slot .until))) 12 (span .pos),
       q,
     )
-    (inner-tests (eqb (i .id) (top .id)) (eqb (i .scale) (top .scale)) (eqb (i .time) now) (eqb (i .offset) 0) (eqb (span .end + sizes (i .entries)) (slot .end)) (eqb (now + durations (i .entries)) (slot .until)))
+    (inner-tests (eqb (i .id) (top .id)) (eqb (i .scale) (top .scale)) (eqb (i .time) now) (eqb (i .offset) 0)
+    (eqb (span .end + sizes (i .entries)) (slot .end)) (eqb (now + durations (i .entries)) (slot .until)))

@@ -146,7 +146,8 @@ entries-between (suc c) before xs after es h e =
     let q : a ∷ more ≡ es = cc in
     let split : before ++ take entryBytes xs ++ drop entryBytes xs ++ after ≡ before ++ xs ++ after =
     ap (λ l. l ++ after) (append-assoc before (take entryBytes xs) (drop entryBytes xs) ∙ ap (λ l. before ++ l) (take-append-drop entryBytes xs)) in
-    let long : length (before ++ take entryBytes xs) ≡ length before + entryBytes = length-append before (take entryBytes xs) ∙ ap (λ z. length before + z) (length-take-le entryBytes xs (omega arith)) in
+    let long : length (before ++ take entryBytes xs) ≡ length before + entryBytes =
+    length-append before (take entryBytes xs) ∙ ap (λ z. length before + z) (length-take-le entryBytes xs (omega arith)) in
     let ih : Holds (before ++ take entryBytes xs ++ drop entryBytes xs ++ after) (length (before ++ take entryBytes xs)) more =
     entries-between c (before ++ take entryBytes xs) (drop entryBytes xs) after more (omega (arith, length-drop entryBytes xs)) ps in
     rw (← q) (entry-between before xs after a (omega arith) p, rw (split, long) at ih)

@@ -99,7 +99,8 @@ module _ {X : Type 0} (brand : ℕ) (span : Span) (f : Flow) (k : Opened → Flo
       ∙ then-cong (words c (drop 4 zs)) _ _
       (λ ws q. ap (λ (b : Bool). pick b (k passed f (span .end) ys) none) (ap (λ b. (found || b) || among brand ws) (eqb-sym v brand) ∙ found-more found (eqb brand v) (among brand ws)))
       ∙ sym (then-assoc (words c (drop 4 zs)) (λ more. some (v ∷ more)) (λ ws. pick (found || among brand ws) (k passed f (span .end) ys) none))
-      ∙ ap (λ (o : Option Field). andThen (andThen o (λ word. andThen (words c (word .rest)) (λ more. some (word .value ∷ more)))) (λ ws. pick (found || among brand ws) (k passed f (span .end) ys) none))
+      ∙ ap (λ (o : Option Field). andThen (andThen o (λ word. andThen (words c (word .rest)) (λ more. some (word .value ∷ more))))
+      (λ ws. pick (found || among brand ws) (k passed f (span .end) ys) none))
       (sym (field-some 4 zs (omega arith)))
 
   -- a `styp` whose body is all there, has its two first numbers, and is whole numbers

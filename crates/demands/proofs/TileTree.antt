@@ -24,7 +24,7 @@ use Rattle.state.specs.declared.Seen.{Seen}
 use Rattle.state.specs.declared.Top.{Top}
 use Rattle.state.specs.declared.Level.{Level}
 use Rattle.state.specs.declared.Slot.{Slot}
-use Rattle.state.specs.Flow.{Flow, Left, withNow, listed}
+use Rattle.state.specs.Flow.{Flow, Left, listed}
 use Rattle.state.specs.Rows.{noRoom}
 use Rattle.state.specs.Levels.{entryAt, altered, slotOf, took}
 use Rattle.state.specs.Stages.{innerLevel, leafRecord}
@@ -33,14 +33,13 @@ use Rattle.descent.specs.Whole.{Under, innerD, slotD, readBackD, entryD, entrie
 use Rattle.demands.specs.Told.{climb}
 use Rattle.lookup.specs.Rows.{rowOf}
 use Rattle.demands.specs.Verdict.{Verdict, judge, told, seen0, enlist, Meets}
-use Rattle.demands.proofs.Verdicts.{meets-equal, meets-trans, judge-after, judge-not, judge-told, told-then, told-cong, told-meets, enlist-meets, enlist-now, enlist-both}
+use Rattle.demands.proofs.Verdicts.{meets-trans, judge-after, judge-not, judge-told, told-then, told-meets, enlist-both}
 use Rattle.demands.proofs.Stored.{Alike, alike-trans, alike-refl, entryFrom, Holds, holds-alike}
 use Rattle.demands.proofs.LeafTree.{leaf-tree, leaf-first, leaf-full, leaf-no-room}
 
--- The same but for the work area.
+-- The same but for the work area and the time.
 pub record Like (f g : Flow) : Type 0 where
   pub leaves : f .leaves ≡ g .leaves
-  pub now : f .now ≡ g .now
   pub last : f .last ≡ g .last
   pub table : f .table ≡ g .table
 
@@ -88,9 +87,9 @@ unfolding sizes durations
 stands-next l e es n now st =
     record { counted = omega (arith, st .counted); few = st .few; ends = omega (arith, st .ends); lasts = omega (arith, st .lasts); sized = st .sized .1 }
 
--- what the tree says of parts, with what follows them at the time `t`
-abbrev pub tells : {X : Type 0} → Option (List Part) → Flow → ℕ → (Flow → Verdict X) → Verdict X
-tells parts g t K = told parts (λ ps. enlist ps g (λ g'. K (withNow g' t)))
+-- what the tree says of parts, with what follows them
+abbrev pub tells : {X : Type 0} → Option (List Part) → Flow → (Flow → Verdict X) → Verdict X
+tells parts g K = told parts (λ ps. enlist ps g K)
 
 module _ (X : Type 0) (top : Top) (depth : ℕ) where
   -- A leaf: its record is written where there is room.
@@ -103,17 +102,16 @@ module _ (X : Type 0) (top : Top) (depth : ℕ) where
     leaf-out s f' m cs = h tt (listed f' (leafRecord slot (f' .now) (s .first)) (slot .until) (s .last)) m cs
 
     abbrev leaf-told : List ℕ → Verdict X
-    leaf-told ts = enlist (leafPart (leafOf n (f .now) e ts) ts ∷ []) g (λ g'. K (withNow g' (f .now + e .duration)))
+    leaf-told ts = enlist (leafPart (leafOf n (f .now) e ts) ts ∷ []) g K
 
     listed-like : (ts : List ℕ) (s : Seen) → s .first ≡ firstTime ts →
-        Meets (leaf-out s f (slot .end) ys) (K (withNow (listed g (recordOf (leafOf n (f .now) e ts)) (f .now + e .duration) (s .last)) (f .now + e .duration)))
+        Meets (leaf-out s f (slot .end) ys) (K (listed g (rowOf (leafOf n (f .now) e ts)) (f .now + e .duration) (s .last)))
     unfolding listed
     listed-like ts s q =
         let e1 : n + e .size - n ≡ e .size = omega arith in
         let e2 : f .now + e .duration - f .now ≡ e .duration = omega arith in
-        follows (listed f (leafRow slot (f .now) (s .first)) (slot .until) (s .last))
-        (withNow (listed g (rowOf (leafOf n (f .now) e ts)) (f .now + e .duration) (s .last)) (f .now + e .duration)) refl (alike-refl _ _)
-        (record { leaves = ap (λ (k : ℕ). suc k) (lk .leaves); now = refl; last = refl; table = rw (e1, e2, q, lk .table, lk .leaves) })
+        follows (listed f (leafRow slot (f .now) (s .first)) (slot .until) (s .last)) (listed g (rowOf (leafOf n (f .now) e ts)) (f .now + e .duration) (s .last)) refl (alike-refl _ _)
+        (record { leaves = ap (λ (k : ℕ). suc k) (lk .leaves); last = refl; table = rw (e1, e2, q, lk .table, lk .leaves) })
 
     same-room : (t : Bool) → noRoom (f .leaves) (f .table) ≡ t → noRoom (g .leaves) (g .table) ≡ t
     same-room t r = rw (← lk .leaves, ← lk .table) r
@@ -152,7 +150,7 @@ module _ (X : Type 0) (top : Top) (depth : ℕ) where
   -- A reading of an entry meets what the tree says of it.
   abbrev pub Entered : (tree.Entry → Flow → ℕ → List ℕ → Res (Unit {0}) Flow Left) → (tree.Entry → ℕ → ℕ → List ℕ → Option (List Part)) → Type 0
   Entered read parts = (e : tree.Entry) (f g : Flow) (n : ℕ) (xs ys : List ℕ) (h : Goes X) (K : Flow → Verdict X) → e .size ≡ length xs → 0 < length xs → workBytes ≤ length (f .work) →
-      Like f g → Follows (levelBytes * depth) (f .work) (f .now + e .duration) h (n + e .size) ys K → Meets (judge (read e f n (xs ++ ys)) h) (tells (parts e n (f .now) xs) g (f .now + e .duration) K)
+      Like f g → Follows (levelBytes * depth) (f .work) (f .now + e .duration) h (n + e .size) ys K → Meets (judge (read e f n (xs ++ ys)) h) (tells (parts e n (f .now) xs) g K)
 
   module _ (inner : Under) (underT : tree'.Under) where
     -- an inner index and all that it indexes
@@ -170,9 +168,9 @@ module _ (X : Type 0) (top : Top) (depth : ℕ) where
           leaf ts = some (leafPart (leafOf n (f .now) e ts) ts ∷ [])
 
           at : (t : Bool) → Meets (judge (slotD inner top depth (not t) (slotOf (entryFrom e) (f .now) n) f n (xs ++ ys)) h)
-              (tells (pick t (andThen (leafTimes (top .id) xs) leaf) (underT n (f .now) (e .duration) xs)) g (f .now + e .duration) K)
+              (tells (pick t (andThen (leafTimes (top .id) xs) leaf) (underT n (f .now) (e .duration) xs)) g K)
           at true =
-              rw (judge-after (leafD (top .id) (slotOf (entryFrom e) (f .now) n) f n (xs ++ ys)) _ h, told-then (leafTimes (top .id) xs) leaf (λ ps. enlist ps g (λ g'. K (withNow g' (f .now + e .duration)))))
+              rw (judge-after (leafD (top .id) (slotOf (entryFrom e) (f .now) n) f n (xs ++ ys)) _ h, told-then (leafTimes (top .id) xs) leaf (λ ps. enlist ps g K))
               (leaf-meets e f g n xs ys h K sz some-bytes lk fo)
           at false = deeper e f g n xs ys h K sz some-bytes long lk fo
 
@@ -183,7 +181,7 @@ module _ (X : Type 0) (top : Top) (depth : ℕ) where
       entry-meets : (l : Level) (e : tree.Entry) (es : List tree.Entry) (f g : Flow) (n : ℕ) (xs ys : List ℕ) (h : Goes X) (K : Flow → Verdict X) →
           Stands l (e ∷ es) n (f .now) → entryAt (f .work) (place l) ≡ entryFrom e → e .size ≡ length xs → workBytes ≤ length (f .work) → Like f g →
           Follows (levelBytes * depth) (f .work) (f .now + e .duration) h (n + e .size) ys K →
-          Meets (judge (entryD inner top depth l f n (xs ++ ys)) h) (tells (entryParts (top .id) underT n (f .now) e xs) g (f .now + e .duration) K)
+          Meets (judge (entryD inner top depth l f n (xs ++ ys)) h) (tells (entryParts (top .id) underT n (f .now) e xs) g K)
       unfolding entryD readBackD unless shows
       entry-meets l e es f g n [] ys h K st he sz long lk fo = absurd (omega (arith, st .sized .0))
       entry-meets l e es f g n (x ∷ xs) ys h K st he sz long lk fo =
@@ -192,44 +190,34 @@ module _ (X : Type 0) (top : Top) (depth : ℕ) where
       pub tile-meets : (es : List tree.Entry) (l : Level) (f g : Flow) (n : ℕ) (xs ys : List ℕ) (h : Goes X) (K : Flow → Verdict X) →
           1 ≤ depth → Stands l es n (f .now) → Holds (f .work) (place l) es → sizes es ≡ length xs → workBytes ≤ length (f .work) → Like f g →
           Follows (levelBytes * depth) (f .work) (f .now + durations es) h (n + length xs) ys K →
-          Meets (judge (entriesD inner top depth (length es) l f n (xs ++ ys)) h) (tells (tile (top .id) underT n (f .now) es xs) g (f .now + durations es) K)
+          Meets (judge (entriesD inner top depth (length es) l f n (xs ++ ys)) h) (tells (tile (top .id) underT n (f .now) es xs) g K)
       unfolding entriesD tile sizes durations told enlist judge
       tile-meets [] l f g n [] ys h K one st ho sz long lk fo =
           let q : n + 0 ≡ n = omega arith in
-          rw q at (fo f (withNow g (f .now + 0)) (omega arith) (alike-refl _ _) (record { leaves = lk .leaves; now = omega arith; last = lk .last; table = lk .table }))
+          rw q at (fo f g (omega arith) (alike-refl _ _) lk)
       tile-meets [] l f g n (x ∷ xs) ys h K one st ho sz long lk fo = absurd (omega arith)
       tile-meets (e ∷ es) l f g n xs ys h K one st ho sz long lk fo =
           let B = take (e .size) xs in
           let R = drop (e .size) xs in
           let lb : length B ≡ e .size = length-take-le (e .size) xs (omega arith) in
           let lr : length R ≡ length xs - e .size = length-drop (e .size) xs in
-          let T : ℕ = f .now + (e .duration + durations es) in
           let tiled : ℕ → Option (List Part) = λ t. tile (top .id) underT (n + e .size) t es R in
           let rest : Option (List Part) = tiled (f .now + e .duration) in
           let h' : Goes X = λ u f' m cs. judge (entriesD inner top depth (length es) (took l) f' m cs) h in
-          let K' : Flow → Verdict X = λ g'. tells rest g' T K in
+          let K' : Flow → Verdict X = λ g'. tells rest g' K in
           let cutAt : xs ++ ys ≡ B ++ (R ++ ys) = ap (λ (z : List ℕ). z ++ ys) (sym (take-append-drop (e .size) xs)) ∙ append-assoc B R ys in
           let next : place l + entryBytes ≡ place (took l) = omega arith in
           let room : place (took l) + entryBytes * length es ≤ levelBytes * depth = omega (arith, st .counted, st .few) in
           let follows : Follows (levelBytes * depth) (f .work) (f .now + e .duration) h' (n + e .size) (R ++ ys) K' =
           λ f1 g1 t1 al lk1.
-          let q : f1 .now + durations es ≡ T = omega arith in
           let m : n + e .size + length R ≡ n + length xs = omega arith in
-          let go-on : Meets (h' tt f1 (n + e .size) (R ++ ys)) (tells (tiled (f1 .now)) g1 (f1 .now + durations es) K) =
+          let go-on : Meets (h' tt f1 (n + e .size) (R ++ ys)) (tells (tiled (f1 .now)) g1 K) =
           tile-meets es (took l) f1 g1 (n + e .size) R ys h K one (rw t1 (stands-next l e es n (f .now) st)) (holds-alike es (place (took l)) al room (rw next at (ho .1)))
           (omega arith) (omega (arith, al .long)) lk1 (λ f2 g2 t2 al2 lk2. rw m (fo f2 g2 (omega arith) (alike-trans al al2) lk2)) in
-          subst (λ (t : ℕ). Meets (h' tt f1 (n + e .size) (R ++ ys)) (tells (tiled t) g1 T K)) t1 (rw q at go-on) in
+          subst (λ (t : ℕ). Meets (h' tt f1 (n + e .size) (R ++ ys)) (tells (tiled t) g1 K)) t1 go-on in
           let parts : Option (List Part) = entryParts (top .id) underT n (f .now) e B in
           let read : Verdict X = judge (entryD inner top depth l f n (B ++ (R ++ ys))) h' in
-          let near : List Part → Verdict X = λ ps. enlist ps g (λ g'. K' (withNow g' (f .now + e .duration))) in
-          let apart : List Part → Verdict X = λ ps. enlist ps g K' in
-          let both : Verdict X = tells (andThen parts (λ ps. andThen rest (λ qs. some (ps ++ qs)))) g T K in
-          let one-entry : Meets read (told parts near) = entry-meets l e es f g n B (R ++ ys) h' K' st (ho .0) (sym lb) long lk follows in
-          let same-time : Meets (told parts near) (told parts apart) =
-          told-meets parts near apart
-          (λ ps q. enlist-meets ps g (λ g'. K' (withNow g' (f .now + e .duration))) K'
-          (λ g' w. meets-equal (K' (withNow g' (f .now + e .duration))) (K' g') (told-cong rest _ _ (λ qs r. enlist-now qs g' (f .now + e .duration) T K)))) in
-          let joined : Meets (told parts apart) both = enlist-both parts rest g (λ g'. K (withNow g' T)) in
+          let one-entry : Meets read (tells parts g K') = entry-meets l e es f g n B (R ++ ys) h' K' st (ho .0) (sym lb) long lk follows in
           rw (ap (λ (z : List ℕ). judge (after (entryD inner top depth l f n z) (λ u g' m cs. entriesD inner top depth (length es) (took l) g' m cs)) h) cutAt
           ∙ judge-after (entryD inner top depth l f n (B ++ (R ++ ys))) _ h)
-          (meets-trans read (told parts near) both one-entry (meets-trans (told parts near) (told parts apart) both same-time joined))
+          (meets-trans read (tells parts g K') (tells (andThen parts (λ ps. andThen rest (λ qs. some (ps ++ qs)))) g K) one-entry (enlist-both parts rest g K))

@@ -8,7 +8,7 @@ use lib.Dec.{eqb}
 use Rattle.basics.specs.Choose.{pick, andThen}
 use Rattle.segment.specs.Tree.{Part, leafPart, indexPart}
 use Rattle.machine.specs.Run.{Res, okay, fail, cut, either, after}
-use Rattle.state.specs.Flow.{Flow, Left, withNow, listed}
+use Rattle.state.specs.Flow.{Flow, Left, listed}
 use Rattle.state.specs.Rows.{noRoom}
 use Rattle.demands.specs.Told.{upon, climb}
 use Rattle.covering.specs.Records.{recordOf}
@@ -50,13 +50,9 @@ unfolding pick
 pick-not true v w p q = p
 pick-not false v w p q = q
 
-pub pick-meets : {X : Type 0} (t : Bool) (v w u : Verdict X) → Meets w u → Meets (pick t v w) (pick t v u)
-unfolding pick
-pick-meets true v w u p = meets-same v
-pick-meets false v w u p = p
-
 -- a reading that is never accepted is not fine
-pub judge-not : {R X : Type 0} (r : Res R Flow Left) (k : R → Flow → ℕ → List ℕ → Verdict X) → ((q : R) (f : Flow) (n : ℕ) (bs : List ℕ) → r ≡ okay q f n bs → NotFine (k q f n bs)) → NotFine (judge r k)
+pub judge-not : {R X : Type 0} (r : Res R Flow Left) (k : R → Flow → ℕ → List ℕ → Verdict X) →
+    ((q : R) (f : Flow) (n : ℕ) (bs : List ℕ) → r ≡ okay q f n bs → NotFine (k q f n bs)) → NotFine (judge r k)
 unfolding judge
 judge-not (okay q f n bs) k h = h q f n bs refl
 judge-not (fail x l n) k h = pick-not (eqb (x .number) 15) (full (x .place)) wrong tt tt
@@ -104,14 +100,6 @@ enlist-append (leafPart l ts ∷ ps) qs f k =
     ap (pick (noRoom (f .leaves) (f .table)) (full (l .position))) (told-cong (climb (seen0 (f .last)) ts) _ _ (λ s e. enlist-append ps qs (listed f (recordOf l) (l .start + l .duration) (s .last)) k))
 enlist-append (indexPart p s ∷ ps) qs f k = enlist-append ps qs f k
 
-pub enlist-meets : {X : Type 0} (ps : List Part) (f : Flow) (k k' : Flow → Verdict X) → ((g : Flow) → g .work ≡ f .work → Meets (k g) (k' g)) → Meets (enlist ps f k) (enlist ps f k')
-unfolding enlist listed
-enlist-meets [] f k k' h = h f refl
-enlist-meets (leafPart l ts ∷ ps) f k k' h =
-    pick-meets (noRoom (f .leaves) (f .table)) (full (l .position)) _ _
-    (told-meets (climb (seen0 (f .last)) ts) _ _ (λ s e. enlist-meets ps (listed f (recordOf l) (l .start + l .duration) (s .last)) k k' h))
-enlist-meets (indexPart p s ∷ ps) f k k' h = enlist-meets ps f k k' h
-
 pub enlist-not : {X : Type 0} (ps : List Part) (f : Flow) (k : Flow → Verdict X) → ((g : Flow) → NotFine (k g)) → NotFine (enlist ps f k)
 unfolding enlist
 enlist-not [] f k h = h f
@@ -119,13 +107,6 @@ enlist-not (leafPart l ts ∷ ps) f k h =
     pick-not (noRoom (f .leaves) (f .table)) (full (l .position)) _ tt
     (told-not (climb (seen0 (f .last)) ts) _ (λ s e. enlist-not ps (listed f (recordOf l) (l .start + l .duration) (s .last)) k h))
 enlist-not (indexPart p s ∷ ps) f k h = enlist-not ps f k h
-
--- the time at which the list begins is not looked at
-pub enlist-now : {X : Type 0} (ps : List Part) (f : Flow) (s t : ℕ) (k : Flow → Verdict X) → enlist ps (withNow f s) (λ g. k (withNow g t)) ≡ enlist ps f (λ g. k (withNow g t))
-unfolding enlist listed
-enlist-now [] f s t k = refl
-enlist-now (leafPart l ts ∷ ps) f s t k = refl
-enlist-now (indexPart p z ∷ ps) f s t k = enlist-now ps f s t k
 
 -- leaves of a first part and of a second, told apart or together
 pub enlist-both : {X : Type 0} (o q : Option (List Part)) (f : Flow) (k : Flow → Verdict X) →

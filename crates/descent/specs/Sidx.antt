@@ -10,7 +10,8 @@ use Rattle.state.specs.declared.Sums.{Sums}
 use Rattle.state.specs.declared.Index.{Index}
 use Rattle.state.specs.declared.EntryPart.the-variants as entry
 use Rattle.state.specs.Flow.{Flow, Left, left}
-use Rattle.state.specs.Sidx.{Place, sidxVersionFaults, idFaults, scaleFaults, timeFaults, offsetFaults, countFaults, sumFaults, wideMore, indexOf, entrySizeFaults, plusSize, plusDuration, nextEntry, keepByte}
+use Rattle.state.specs.Sidx.{Place, wideMore, indexOf, plusSize, plusDuration, nextEntry, keepByte}
+use Rattle.state.specs.Sidx.{sidxVersionFaults, idFaults, scaleFaults, timeFaults, offsetFaults, countFaults, sumFaults, entrySizeFaults}
 
 abbrev Res' : Type 0
 Res' = Res Index Flow Left

@@ -33,7 +33,8 @@ use Rattle.descent.specs.Whole
 -- the bytes of S and T
 unfoldable pub theSegments : Unit {0}
 unfolding
-    Segments.bytes2 Segments.bytes4 Segments.box Segments.plainVersion Segments.stypBox Segments.entry Segments.sidxBox Segments.tfhdBox Segments.tfdtBox Segments.leaf Segments.indexAndLeaves Segments.sWith Segments.tWith
+    Segments.bytes2 Segments.bytes4 Segments.box Segments.plainVersion Segments.stypBox Segments.entry Segments.sidxBox
+    Segments.tfhdBox Segments.tfdtBox Segments.leaf Segments.indexAndLeaves Segments.sWith Segments.tWith
 theSegments = tt
 
 -- the tree
@@ -41,7 +42,8 @@ unfoldable pub theTree : Unit {0}
 unfolding
     Bytes.numberFrom
     Choose.pick Choose.andThen
-    Boxes.among Boxes.field Boxes.words Boxes.boxOf Boxes.firstBox Boxes.cut Boxes.only Boxes.without Boxes.stypBrands Boxes.entryOf Boxes.entriesOf Boxes.sizes Boxes.durations Boxes.timeBytes Boxes.sidxIndex Boxes.tfhdTrack Boxes.tfdtTime
+    Boxes.among Boxes.field Boxes.words Boxes.boxOf Boxes.firstBox Boxes.cut Boxes.only Boxes.without Boxes.stypBrands
+    Boxes.entryOf Boxes.entriesOf Boxes.sizes Boxes.durations Boxes.timeBytes Boxes.sidxIndex Boxes.tfhdTrack Boxes.tfdtTime
     Leaves.moofFirst Leaves.leafBoxes Leaves.headAndTime Leaves.trafTimes Leaves.gather Leaves.moofTimes Leaves.nonEmpty Leaves.leafTimes Leaves.neverFall
     Tree.openIndex Tree.firstIndex Tree.topIndex Tree.gapBoxes Tree.material Tree.firstTime Tree.entryParts Tree.tile Tree.suitsEntry Tree.innerIndex Tree.underIndex Tree.timesIn Tree.leavesIn
     Tree.segmentParts Tree.segment
@@ -57,13 +59,17 @@ unfolding
     Lists.headed Lists.stepBox Lists.goOn
     Run.lift
     Calls.stateOf Calls.workOf Calls.tableOf Calls.answerOf Calls.feedState Calls.feedOf Calls.finishState Calls.finishOf Calls.finishAfter
-    Put.putAll Table.room Flow.listed
-    StepLeaf.seenNow StepLeaf.beginMoof StepLeaf.stepMoofBody StepLeaf.moofNext StepLeaf.stepMoof StepLeaf.beginLeaf StepLeaf.stepLeafBody StepLeaf.leafNow StepLeaf.leafLacks StepLeaf.leafNext StepLeaf.stepLeaf
+    Flow.room Flow.putAll Flow.listed
+    StepLeaf.seenNow StepLeaf.beginMoof StepLeaf.stepMoofBody StepLeaf.moofNext StepLeaf.stepMoof
+    StepLeaf.beginLeaf StepLeaf.stepLeafBody StepLeaf.leafNow StepLeaf.leafLacks StepLeaf.leafNext StepLeaf.stepLeaf
     Levels.entryAt Levels.inmost Levels.depth Levels.tookEntry Levels.push Levels.stillOne Levels.stillTwo Levels.stillThree Levels.stillOpen Levels.altered
     StepOpening.brandsFrom StepOpening.stypEnds StepOpening.beginOpening StepOpening.stepOpeningBody StepOpening.closeOpening StepOpening.stepOpening
-    Ranges.within Ranges.headBounds Ranges.trafMost Ranges.trafBodyBounds Ranges.trafBounds Ranges.moofBodyBounds Ranges.moofBounds Ranges.leafBodyBounds Ranges.leafBounds Ranges.indexMost Ranges.scaleLeast Ranges.sizesRead Ranges.durationsRead Ranges.sidxBounds Ranges.openingBodyBounds Ranges.openingBounds Ranges.gapBounds Ranges.levelsBounds Ranges.innerBounds Ranges.stageBounds Ranges.bounds
+    Ranges.within Ranges.headBounds Ranges.trafMost Ranges.trafBodyBounds Ranges.trafBounds Ranges.moofBodyBounds
+    Ranges.moofBounds Ranges.leafBodyBounds Ranges.leafBounds Ranges.indexMost Ranges.scaleLeast Ranges.sizesRead Ranges.durationsRead Ranges.sidxBounds
+    Ranges.openingBodyBounds Ranges.openingBounds Ranges.gapBounds Ranges.levelsBounds Ranges.innerBounds Ranges.stageBounds Ranges.bounds
     Rows.topLengths Rows.openingFaults Rows.gapFaults Rows.leafFaults Rows.innerFaults Rows.fresh Rows.headedTrack Rows.trafFaults
-    StepSidx.partOf StepSidx.sidxVersionFaults StepSidx.idFaults StepSidx.scaleFaults StepSidx.timeFaults StepSidx.offsetFaults StepSidx.countFaults StepSidx.sumFaults StepSidx.wideMore StepSidx.closeSidx StepSidx.fieldEnds StepSidx.entryEnds StepSidx.wordPlace StepSidx.stepSidx
+    StepSidx.partOf StepSidx.sidxVersionFaults StepSidx.idFaults StepSidx.scaleFaults StepSidx.timeFaults
+    StepSidx.offsetFaults StepSidx.countFaults StepSidx.sumFaults StepSidx.wideMore StepSidx.closeSidx StepSidx.fieldEnds StepSidx.entryEnds StepSidx.wordPlace StepSidx.stepSidx
     Stages.gapNext Stages.stepGap Stages.indexEnds Stages.onward Stages.stepSlot Stages.stepEntry Stages.stepStage
     Step.settle Step.step Step.run
     Traf.tfdtVersionFaults Traf.reference Traf.fallFaults Traf.trafEnds Traf.beginTraf Traf.stepTrafBody Traf.saw Traf.trafNow Traf.lacking Traf.trafNext Traf.stepTraf
@@ -75,7 +81,8 @@ unfolding
     theBytes Limit.beyond Heads.sizedD Heads.headD Lists.boxD Lists.goOnD Lists.boxesD Run.either Run.fieldD Run.skipD
     DescentLeaf.tfhdD DescentLeaf.widthD DescentLeaf.tfdtD DescentLeaf.trafBodyD DescentLeaf.moofBodyD DescentLeaf.leafBodyD
     DescentOpening.brandsD DescentOpening.stypD DescentOpening.openingBodyD
-    DescentSidx.closeD DescentSidx.entryD DescentSidx.entriesD DescentSidx.countedD DescentSidx.countD DescentSidx.reservedD DescentSidx.offsetD DescentSidx.timeD DescentSidx.scaleD DescentSidx.idD DescentSidx.flagsD DescentSidx.versionD DescentSidx.sidxD
+    DescentSidx.closeD DescentSidx.entryD DescentSidx.entriesD DescentSidx.countedD DescentSidx.countD DescentSidx.reservedD
+    DescentSidx.offsetD DescentSidx.timeD DescentSidx.scaleD DescentSidx.idD DescentSidx.flagsD DescentSidx.versionD DescentSidx.sidxD
     Whole.gapD Whole.slotD Whole.readBackD Whole.entryD Whole.entriesD Whole.underD Whole.materialD Whole.segmentD Whole.outcome Whole.wholeD
 theDescent = tt
 

@@ -266,7 +266,8 @@ traf-holds track xs times e =
           there = at-head;
           has = is-head;
           only = λ i b there is.
-              or-first i p q (others i b there (among-has (b .kind) trafKinds 0 (ap some (sym is)))) (λ same. apart (b .kind) tfhd tfdt is (same-kind bs i q b d there at-time same ∙ is-time) (omega arith));
+              or-first i p q (others i b there (among-has (b .kind) trafKinds 0 (ap some (sym is))))
+              (λ same. apart (b .kind) tfhd tfdt is (same-kind bs i q b d there at-time same ∙ is-time) (omega arith));
         };
         time = record {
           place = q;
@@ -279,7 +280,8 @@ traf-holds track xs times e =
         order = order;
         none = λ i b there is.
             apart (b .kind) tfad tfdt is
-            (same-kind bs i q b d there at-time (others i b there (among-has (b .kind) trafKinds 2 (ap some (sym is))) (λ same. apart (b .kind) tfad tfhd is (same-kind bs i p b h there at-head same ∙ is-head) (omega arith))) ∙ is-time)
+            (same-kind bs i q b d there at-time
+            (others i b there (among-has (b .kind) trafKinds 2 (ap some (sym is))) (λ same. apart (b .kind) tfad tfhd is (same-kind bs i p b h there at-head same ∙ is-head) (omega arith))) ∙ is-time)
             (omega arith);
         id = id;
         tells = tells;

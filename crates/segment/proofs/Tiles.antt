@@ -78,4 +78,5 @@ pub made-by : (xs : List ℕ) (top : Opened) (ps : List Part) (m : Made xs top p
 made-by xs top ps m K grows =
     let id = top .index .id in
     let scale = top .index .scale in
-    tile-by id scale K grows (underIndex id scale (levels - 1)) (under-by id scale K grows (levels - 1)) (top .index .entries) (materialStart xs top) (top .index .time) (m .bytes) ps (m .long) (m .tiled)
+    tile-by id scale K grows (underIndex id scale (levels - 1)) (under-by id scale K grows (levels - 1)) (top .index .entries) (materialStart xs top) (top .index .time)
+    (m .bytes) ps (m .long) (m .tiled)
