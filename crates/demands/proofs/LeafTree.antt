@@ -7,7 +7,7 @@ use mathlib.Core.Bool.{Bool, true, false, not, true≢false, _&&_, _||_, Bool·n
 use mathlib.Core.Logic.{_≢_}
 use native.Mathlib.Omega.{arith}
 use lib.Dec.{eqb, ltb}
-use lib.ListN.{length, drop, length-append}
+use lib.ListN.{length, drop, getElem?, length-append}
 use lib.Seq.{take-append-le, drop-append-le}
 use borrow.Author.Tests.{not-true, eqb-true, eqb-false, eq-eqb, ne-eqb, ltb-false, lt-ltb, le-ltb}
 use Rattle.table.specs.Table.{room}
@@ -16,10 +16,12 @@ use Rattle.basics.proofs.Picks.{pick-with}
 use Rattle.basics.proofs.Tests.{and-both, and-not}
 use Rattle.basics.proofs.Options.{absurd-some, then-cong, then-none, then-assoc, then-pick, then-inv, pick-some}
 use Rattle.segment.specs.Constants.{styp, sidx, moof, mdat, traf, tfhd, tfdt}
-use Rattle.segment.specs.Boxes.{provided, Field, field, Box, firstBox, cut, boxes, among, without, timeBytes, tfhdTrack, tfdtTime}
+use Rattle.segment.specs.Boxes.{provided, Field, field, Box, firstBox, cut, boxes, without, timeBytes, tfhdTrack, tfdtTime}
 use Rattle.segment.specs.Leaves.{moofFirst, leafBoxes, trafTimes, gather, moofTimes, nonEmpty, leafTimes}
 use Rattle.segment.specs.Tree.{firstTime}
+use Rattle.segment.specs.Parts.{At}
 use Rattle.segment.proofs.Said.{field-rest}
+use Rattle.segment.proofs.Rules.{leaf-holds}
 use Rattle.machine.specs.Faults.{refusal, shows, lowest, unless}
 use Rattle.machine.specs.Run.{Res, okay, fail, either, after, fieldD, plain}
 use Rattle.machine.specs.Heads.{headD, sizeFaults}
@@ -313,42 +315,18 @@ head-read end f n xs ys b e q =
     (m, cs, p, z)
 
 -- the first box of a leaf of the tree is no `styp`, `sidx` or `mdat`
-not-yes : {A : Type 0} → _≡_ {A = Bool} false true → A
-not-yes e = let z : _≡_ {A = ℕ} 0 1 = cc in absurd (omega arith)
-
-kept-out : (s x w : Bool) → pick (pick s true (pick x true false)) false w ≡ true → (s ≡ false) × (x ≡ false)
-unfolding pick
-kept-out true x w e = not-yes e
-kept-out false true w e = not-yes e
-kept-out false false w e = (refl, refl)
-
-no-mdat : (k : ℕ) (w : Bool) → pick (eqb k moof) true (pick (eqb k mdat) false w) ≡ true → eqb k mdat ≡ false
-unfolding pick
-no-mdat k w e = at (eqb k moof) (eqb k mdat) refl refl e
-  where
-    at : (s t : Bool) → eqb k moof ≡ s → eqb k mdat ≡ t → pick s true (pick t false w) ≡ true → eqb k mdat ≡ false
-    at true t p q u = let z : k ≡ moof = eqb-true k moof p in rw z
-    at false true p q u = not-yes u
-    at false false p q u = q
-
 leaf-starts : (id : ℕ) (xs ts : List ℕ) → leafTimes id xs ≡ some ts →
     (0 < length xs) × (b : Box) × (firstBox xs ≡ some b) × (eqb (b .kind) styp ≡ false) × (eqb (b .kind) sidx ≡ false) × (eqb (b .kind) mdat ≡ false)
-unfolding leafTimes leafBoxes cut andThen pick without moofFirst gather nonEmpty among
+unfolding leafTimes leafBoxes cut andThen pick without moofFirst gather nonEmpty
 leaf-starts id [] ts e = absurd-some e
 leaf-starts id (x ∷ xs) ts e =
     let (bs, p, _) = then-inv (leafBoxes (x ∷ xs)) _ ts e in
-    let (cs, r, s) = then-inv (boxes (x ∷ xs)) _ bs p in
-    let (out, s') = pick-some (without (styp ∷ sidx ∷ []) cs) _ bs s in
-    let (first, _) = pick-some (moofFirst cs) _ bs s' in
-    let (b, q, t) = then-inv (firstBox (x ∷ xs)) _ cs r in
-    let (ds, _, u) = then-inv (cut (length xs) (drop (b .size) (x ∷ xs))) _ cs t in
-    at cs b ds (boxes-same (b ∷ ds) cs u) q out first
-  where
-    at : (cs : List Box) (b : Box) (ds : List Box) → b ∷ ds ≡ cs → firstBox (x ∷ xs) ≡ some b → without (styp ∷ sidx ∷ []) cs ≡ true → moofFirst cs ≡ true →
-        (0 < length (x ∷ xs)) × (b : Box) × (firstBox (x ∷ xs) ≡ some b) × (eqb (b .kind) styp ≡ false) × (eqb (b .kind) sidx ≡ false) × (eqb (b .kind) mdat ≡ false)
-    at cs b ds w q out first =
-        let k = kept-out (eqb (b .kind) styp) (eqb (b .kind) sidx) (without (styp ∷ sidx ∷ []) ds) (rw (← w) at out) in
-        (omega arith, b, q, k .0, k .1, no-mdat (b .kind) (moofFirst ds) (rw (← w) at first))
+    let (whole, holds) = leaf-holds (x ∷ xs) bs p in
+    let (b, first, q) = then-inv (firstBox (x ∷ xs)) _ bs whole in
+    let (ds, _, r) = then-inv (cut (length xs) (drop (b .size) (x ∷ xs))) _ bs q in
+    let here : At bs 0 b = ap (λ (cs : List Box). getElem? cs 0) (sym (boxes-same (b ∷ ds) bs r)) in
+    let (no-styp, no-sidx) = holds .none 0 b here in
+    (omega arith, b, first, ne-eqb (b .kind) styp no-styp, ne-eqb (b .kind) sidx no-sidx, ne-eqb (b .kind) mdat (λ is. let (i, a, before, there, is-moof) = holds .before 0 b here is in omega arith))
 
 -- what the header of the first box of a leaf shows where there is no room
 leaf-shows : (pos : ℕ) (h : Header) (f : Flow) → h .pos ≡ pos → is h styp ≡ false → is h sidx ≡ false → is h mdat ≡ false → noRoom (f .leaves) (f .table) ≡ true →

@@ -12,11 +12,10 @@ use borrow.Author.Tests.{eq-eqb, ne-eqb}
 use Rattle.basics.specs.Choose.{pick}
 use Rattle.basics.proofs.Picks.{lt-or-ge, pick-yes, pick-no, pick-both}
 use Rattle.segment.specs.Constants.{sidx, styp, levels as mostLevels}
-use Rattle.machine.specs.Faults.{shows, unless}
-use Rattle.machine.specs.Run.{Sub, go, done, bad, lift, Res, okay, fail, cut, either, after, contBy, run, cont}
-use Rattle.machine.specs.Heads.{boxEnd, sizeFaults, headD}
-use Rattle.machine.specs.Lists.{Box, inHead, inBody, faultsOf, stepBox, stepBoxes, boxD, boxesD}
-use Rattle.machine.specs.declared.Refusal.{Refusal}
+use Rattle.machine.specs.Faults.{shows}
+use Rattle.machine.specs.Run.{Sub, go, done, bad, lift, Res, okay, either, after, contBy, run, cont}
+use Rattle.machine.specs.Heads.{boxEnd}
+use Rattle.machine.specs.Lists.{Box, inHead, inBody, stepBox, stepBoxes, boxesD}
 use Rattle.machine.specs.declared.Header.{Header}
 use Rattle.machine.specs.declared.Head.the-variants as at
 use Rattle.machine.proofs.Faults.{unless-both, none-first, none-second, shows-none}
@@ -51,6 +50,8 @@ use Rattle.descent.specs.Sidx.{sidxD}
 use Rattle.descent.specs.Opening.{skipTo}
 use Rattle.descent.specs.Leaf.{leafD}
 use Rattle.descent.specs.Whole.{gapD, Under, innerD, slotD, readBackD, entryD, entriesD, underD, materialD, segmentD}
+use Rattle.machine.proofs.Readings.{says-okay, says-box}
+use Rattle.demands.proofs.Upons.{Never, Anyhow, each-any}
 use Rattle.demands.proofs.SidxRun.{sidx-run}
 use Rattle.demands.proofs.OpeningRun.{opening-run}
 use Rattle.demands.proofs.LeafRun.{leaf-run}
@@ -107,23 +108,12 @@ deep-faults h e =
     at true p q = true≢false q
     at false p q = true≢false p
 
-not-okay : {R Q F L : Type 0} (r : Res R F L) (xs : R → F → List Refusal) (k : R → F → L) (go' : R → F → ℕ → List ℕ → Res Q F L) → ((h : R) (f : F) → xs h f ≡ [] → ⊥) →
-    (q : Q) (g : F) (m : ℕ) (cs : List ℕ) → after r (λ h f n bs. unless (xs h f) (λ x. fail x (k h f) n) (go' h f n bs)) ≡ okay q g m cs → ⊥
-unfolding either unless
-not-okay (okay h f n bs) xs k go' ne q g m cs e = at (xs h f) (ne h f) e
-  where
-    at : (ys : List Refusal) → (ys ≡ [] → ⊥) → unless ys (λ x. fail x (k h f) n) (go' h f n bs) ≡ okay q g m cs → ⊥
-    at [] no-more e' = no-more refl
-    at (y ∷ ys) no-more e' = let z : _≡_ {A = ℕ} 0 1 = cc in omega arith
-not-okay (fail x l n) xs k go' ne q g m cs e = let z : _≡_ {A = ℕ} 0 1 = cc in omega arith
-not-okay (cut l n) xs k go' ne q g m cs e = let z : _≡_ {A = ℕ} 0 1 = cc in omega arith
-
 -- no index is read on level 5
 pub too-deep : (top : Top) (slot : Slot) (f : Flow) (n : ℕ) (bs : List ℕ) (x : Index) (g : Flow) (m : ℕ) (cs : List ℕ) → innerD top slot 4 f n bs ≡ okay x g m cs → ⊥
-unfolding boxD
 too-deep top slot f n bs x g m cs e =
-    not-okay (headD left (slot .end) f n bs) (faultsOf (innerKind top slot 4)) (λ h g'. left g') (λ h g' m' cs'. sidxD (under top slot 4) (spanOf h) g' m' cs')
-    (λ h g' q. deep-faults h (none-second (sizeFaults (slot .end) h) (innerFaults 4 h) q)) x g m cs e
+    says-okay Never Anyhow (innerD top slot 4 f n bs) x g m cs e
+    (says-box Never Anyhow (innerKind top slot 4) (λ h g' m' cs'. sidxD (under top slot 4) (spanOf h) g' m' cs') f n bs (λ m'. tt) (λ m'. tt) (λ h m' p. each-any (innerFaults 4 h))
+    (λ h m' cs' p q r shown. absurd (deep-faults h shown)))
 
 -- The parts of the segment inside its machine.
 in-opening : (brand n : ℕ) (bs : List ℕ) (r : Sub OpeningBoxes Index Flow Left) →
