@@ -20,10 +20,10 @@ use Rattle.segment.specs.Boxes.{provided, Field, field, Box, firstBox, cut, box
 use Rattle.segment.specs.Leaves.{moofFirst, leafBoxes, trafTimes, gather, moofTimes, nonEmpty, leafTimes}
 use Rattle.segment.specs.Tree.{firstTime}
 use Rattle.segment.specs.Parts.{At}
-use Rattle.segment.proofs.Said.{field-rest}
+use Rattle.segment.proofs.Said.{then-goes, field-rest}
 use Rattle.segment.proofs.Rules.{leaf-holds}
 use Rattle.machine.specs.Faults.{refusal, shows, lowest, unless}
-use Rattle.machine.specs.Run.{Res, okay, fail, either, after, fieldD, plain}
+use Rattle.machine.specs.Run.{Res, okay, fail, cut as cutOff, either, after, fieldD, plain}
 use Rattle.machine.specs.Heads.{headD, sizeFaults}
 use Rattle.machine.specs.Lists.{boxD, boxesD}
 use Rattle.machine.specs.declared.Header.{Header}
@@ -44,7 +44,7 @@ use Rattle.descent.specs.Opening.{skipTo}
 use Rattle.descent.specs.Leaf.{tfhdD, widthD, tfdtD, trafBodyD, trafD, moofBodyD, moofD, leafBodyD, leafD}
 use Rattle.demands.specs.Told.{upon, clean, climb, headLength, headerOf}
 use Rattle.demands.specs.Walks.{trafItem, trafWalk, moofItem, moofWalk, leafItem, leafWalk}
-use Rattle.demands.proofs.Upons.{Never, Anyhow, each-any, clean-none, upon-after, upon-unless, upon-field, clean-append, clean-shows, upon-some}
+use Rattle.demands.proofs.Upons.{Never, Anyhow, each-any, clean-none, upon-after, upon-unless, upon-field, clean-append, clean-shows}
 use Rattle.demands.proofs.HeadTree.{head-tree}
 use Rattle.demands.proofs.ListTree.{list-tree, start-tree}
 use Rattle.demands.proofs.WalkTree.{not-or, body-length, traf-faults, cut-fits, traf-walk, moof-walk, leaf-walk, first-seen}
@@ -284,35 +284,16 @@ leaf-first id last xs ts s e c =
 boxes-same : (a b : List Box) → some a ≡ some b → a ≡ b
 boxes-same a b e = cc
 
--- a header, and what flows after it
-abbrev Read : Type 0
-Read = Header × Flow
-
-abbrev theRead : Header → Flow → Read
-theRead h g = (h, g)
-
-read-same : (a b : Read) → some a ≡ some b → a ≡ b
-read-same a b e = cc
-
-read-so : (end : ℕ) (r : Res Header Flow Left) (h h' : Header) (g f : Flow) (m : ℕ) (cs : List ℕ) → r ≡ okay h g m cs →
-    pick (clean (sizeFaults end h)) (some (theRead h g)) none ≡ some (theRead h' f) → (r ≡ okay h' f m cs) × (sizeFaults end h' ≡ [])
-read-so end r h h' g f m cs e s =
-    let t = pick-some (clean (sizeFaults end h)) (some (theRead h g)) (theRead h' f) s in
-    let same : theRead h g ≡ theRead h' f = read-same (theRead h g) (theRead h' f) (t .1) in
-    let p : h ≡ h' = ap (λ (a : Read). a .0) same in
-    let p' : g ≡ f = ap (λ (a : Read). a .1) same in
-    (rw (p, p') at e, clean-none (sizeFaults end h') (rw p at (t .0)))
-
--- a header that the tree has a box of is read, shows no fault of its size, and leaves what flows
-head-read : (end : ℕ) (f : Flow) (n : ℕ) (xs ys : List ℕ) (b : Box) → end ≡ n + length xs → firstBox xs ≡ some b →
-    (m : ℕ) × (cs : List ℕ) × (headD left end f n (xs ++ ys) ≡ okay (headerOf n b) f m cs) × (sizeFaults end (headerOf n b) ≡ [])
-unfolding andThen
-head-read end f n xs ys b e q =
-    let told : upon (headD left end f n (xs ++ ys)) (λ h g m cs. pick (clean (sizeFaults end h)) (some (theRead h g)) none) ≡ some (theRead (headerOf n b) f) =
-    head-tree end f n xs ys (λ h g m cs. some (theRead h g)) e ∙ ap (λ o. andThen o (λ b'. some (theRead (headerOf n b') f))) q in
-    let (h, g, m, cs, r, s) = upon-some (headD left end f n (xs ++ ys)) _ (theRead (headerOf n b) f) told in
-    let (p, z) = read-so end (headD left end f n (xs ++ ys)) h (headerOf n b) g f m cs r s in
-    (m, cs, p, z)
+-- a header that is read and shows no fault of its size
+head-read : (end : ℕ) (r : Res Header Flow Left) (h : Header) (f : Flow) (m : ℕ) (cs : List ℕ) →
+    upon {X = Res Header Flow Left} r (λ h' g m' cs'. pick (clean (sizeFaults end h')) (some (okay h' g m' cs')) none) ≡ some (okay h f m cs) → (r ≡ okay h f m cs) × (sizeFaults end h ≡ [])
+unfolding upon
+head-read end (okay h' g m' cs') h f m cs e =
+    let (sound, said) = pick-some (clean (sizeFaults end h')) _ (okay h f m cs) e in
+    let same : h' ≡ h = cc in
+    (cc, clean-none (sizeFaults end h) (rw same at sound))
+head-read end (fail x l n) h f m cs e = absurd-some e
+head-read end (cutOff l n) h f m cs e = absurd-some e
 
 -- the first box of a leaf of the tree is no `styp`, `sidx` or `mdat`
 leaf-starts : (id : ℕ) (xs ts : List ℕ) → leafTimes id xs ≡ some ts →
@@ -348,8 +329,10 @@ unfolding boxesD boxD either unless lowest
 leaf-full id slot f n [] ys ts full p e q = absurd (let l = leaf-starts id [] ts q .0 in omega arith)
 leaf-full id slot f n (x ∷ xs) ys ts full p e q =
     let (_, b, first, st, si, md) = leaf-starts id (x ∷ xs) ts q in
-    let (m, cs, r, z) = head-read (slot .end) f n (x ∷ xs) ys b e first in
-    (m, at b m cs r z (leaf-shows (slot .pos) (headerOf n b) f (sym p) st si md full))
+    let (r, z) =
+    head-read (slot .end) (headD left (slot .end) f n (x ∷ xs ++ ys)) (headerOf n b) f (n + headLength b) (b .body ++ (drop (b .size) (x ∷ xs) ++ ys))
+    (head-tree {X = Res Header Flow Left} (slot .end) f n (x ∷ xs) ys (λ h g m cs. some (okay h g m cs)) e ∙ then-goes (firstBox (x ∷ xs)) _ b first) in
+    (n + headLength b, at b _ _ r z (leaf-shows (slot .pos) (headerOf n b) f (sym p) st si md full))
   where
     at : (b : Box) (m : ℕ) (cs : List ℕ) → headD left (slot .end) f n (x ∷ xs ++ ys) ≡ okay (headerOf n b) f m cs → sizeFaults (slot .end) (headerOf n b) ≡ [] →
         leafFaults (slot .pos) false (headerOf n b) f ≡ refusal 15 (slot .pos) ∷ [] → leafD id slot f n (x ∷ xs ++ ys) ≡ fail (refusal 15 (slot .pos)) (left f) m

@@ -77,7 +77,7 @@ leaf-shown pos had h f room (at-sidx e) = simp (clean-append, clean-shows, e, an
 leaf-shown pos had h f room (at-moof e) = simp (clean-append, clean-shows, e, room, and-false)
 leaf-shown pos true h f room (at-mdat e) = simp (clean-append, clean-shows, e, room, and-false)
 leaf-shown pos false h f room (at-mdat e) = simp (clean-append, clean-shows, e)
-leaf-shown pos had h f room (other e f' g d) = simp (clean-append, clean-shows, e, f', g, d, room, and-false)
+leaf-shown pos had h f room (other e f' g d) = simp (clean-append, clean-shows, e, f', d, room, and-false)
 
 -- An index entry starts with an index that is long enough, below level 5.
 pub inner-shown : (d : ℕ) (h : Header) → d < 4 → Kind (h .kind) → clean (innerFaults d h) ≡ pick (is h sidx) (not (ltb (bodyLength h) 24)) false
