@@ -31,7 +31,7 @@ use Rattle.state.specs.Step.{World, reading, ended, refused, settle, pastLimit,
 use Rattle.state.specs.Ranges.{inRange}
 use Rattle.state.specs.Calls.{Out, out, stateOf, workOf, tableOf, answerOf, fed, startOf, feedState, feedOf, finishState, finishAfter, wholeOf}
 use Rattle.state.proofs.RangeTests.{in-range}
-use Rattle.state.proofs.Cuts.{feed-short}
+use Rattle.state.proofs.Cuts.{feed-short, feed-inside}
 use Rattle.state.proofs.Kept.{finish-inside}
 use Rattle.state.proofs.Ranges.{start-in-range, run-kept}
 use Rattle.state.proofs.WithinLimit.{InStage, stage-within, limit-alone, start-within}
@@ -106,10 +106,8 @@ module _ (brand : ℕ) (bytes work table : List ℕ) where
   after-all = run (reading 0 (stage0 brand) (flow0 work table)) bytes
 
   feed-start : workBytes ≤ length work → feedOf (startOf brand) bytes work table ≡ fed after-all
-  unfolding feedOf feedState
-  feed-start long =
-      pick-no (ltb (length work) workBytes) _ _ (le-ltb (length work) workBytes long)
-      ∙ pick-yes (inRange (startOf brand)) _ _ (in-range (startOf brand) .1 (start-in-range brand))
+  unfolding feedState
+  feed-start long = feed-inside (startOf brand) bytes work table long (in-range (startOf brand) .1 (start-in-range brand))
 
   -- inside the two calls: what is read is the descent's reading
   read-whole : outcomeOf after-all ≡ outcome (readD brand bytes work table)

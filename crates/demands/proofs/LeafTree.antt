@@ -7,10 +7,8 @@ use mathlib.Core.Bool.{Bool, true, false, not, true≢false, _&&_, _||_, Bool·n
 use mathlib.Core.Logic.{_≢_}
 use native.Mathlib.Omega.{arith}
 use lib.Dec.{eqb, ltb}
-use lib.ListN.{length, drop, getElem?, length-append}
-use lib.Seq.{take-append-le, drop-append-le}
-use borrow.Author.Tests.{not-true, eqb-true, eqb-false, eq-eqb, ne-eqb, ltb-false, lt-ltb, le-ltb}
-use Rattle.table.specs.Table.{room}
+use lib.ListN.{length, drop, getElem?}
+use borrow.Author.Tests.{not-true, eqb-true, eqb-false, eq-eqb, ne-eqb, ltb-false, lt-ltb}
 use Rattle.basics.specs.Choose.{pick, andThen}
 use Rattle.basics.proofs.Picks.{pick-with}
 use Rattle.basics.proofs.Tests.{and-both, and-not}
@@ -20,7 +18,7 @@ use Rattle.segment.specs.Boxes.{provided, Field, field, Box, firstBox, cut, box
 use Rattle.segment.specs.Leaves.{moofFirst, leafBoxes, trafTimes, gather, moofTimes, nonEmpty, leafTimes}
 use Rattle.segment.specs.Tree.{firstTime}
 use Rattle.segment.specs.Parts.{At}
-use Rattle.segment.proofs.Said.{then-goes, field-rest}
+use Rattle.segment.proofs.Said.{then-goes, field-some, field-rest}
 use Rattle.segment.proofs.Rules.{leaf-holds}
 use Rattle.machine.specs.Faults.{refusal, shows, lowest, unless}
 use Rattle.machine.specs.Run.{Res, okay, fail, cut as cutOff, either, after, fieldD, plain}
@@ -44,7 +42,7 @@ use Rattle.descent.specs.Opening.{skipTo}
 use Rattle.descent.specs.Leaf.{tfhdD, widthD, tfdtD, trafBodyD, trafD, moofBodyD, moofD, leafBodyD, leafD}
 use Rattle.demands.specs.Told.{upon, clean, climb, headLength, headerOf}
 use Rattle.demands.specs.Walks.{trafItem, trafWalk, moofItem, moofWalk, leafItem, leafWalk}
-use Rattle.demands.proofs.Upons.{Never, Anyhow, each-any, clean-none, upon-after, upon-unless, upon-field, clean-append, clean-shows}
+use Rattle.demands.proofs.Upons.{upon-here, Never, Anyhow, each-any, clean-none, upon-after, upon-unless, clean-append, clean-shows}
 use Rattle.demands.proofs.HeadTree.{head-tree}
 use Rattle.demands.proofs.ListTree.{list-tree, start-tree}
 use Rattle.demands.proofs.WalkTree.{not-or, body-length, traf-faults, cut-fits, traf-walk, moof-walk, leaf-walk, first-seen}
@@ -52,10 +50,7 @@ use Rattle.demands.proofs.WalkTree.{not-or, body-length, traf-faults, c
 -- A number of the tree, where there are enough bytes.
 pub field-tree : {R X : Type 0} (k : ℕ → Flow → ℕ → List ℕ → Res R Flow Left) (h : R → Flow → ℕ → List ℕ → Option X) (m : ℕ) (f : Flow) (n : ℕ) (xs ys : List ℕ) → m ≤ length xs →
     upon (fieldD left plain k m 0 f n (xs ++ ys)) h ≡ andThen (field m xs) (λ v. upon (k (v .value) f (n + m) (v .rest ++ ys)) h)
-unfolding field andThen pick
-field-tree k h m f n xs ys l =
-    upon-field k h m f n (xs ++ ys) (omega (arith, length-append xs ys))
-    ∙ rw (le-ltb (length xs) m l, take-append-le m xs ys l, drop-append-le m xs ys l)
+field-tree k h m f n xs ys l = upon-here k h m f n xs ys l ∙ sym (then-goes (field m xs) _ _ (field-some m xs l))
 
 -- Bytes that are skipped.
 pub skip-tree : {R X : Type 0} (r : R) (k : R → Flow → ℕ → List ℕ → Option X) (stop : ℕ) (f : Flow) (n : ℕ) (xs ys : List ℕ) → stop ≡ n + length xs →

@@ -39,7 +39,7 @@ use Rattle.state.specs.Sidx.{sidxVersionFaults, idFaults, scaleFaults, timeFaul
 use Rattle.state.specs.Sidx.{Place, topmost, under, partOf, wideMore, indexOf, sizeOf, plusSize, plusDuration, nextEntry, wordPlace, numberPlace, keepByte}
 use Rattle.descent.specs.Sidx.{closeD, entryD, entriesD, countedD, countD, reservedD, offsetD, timeD, scaleD, idD, flagsD, versionD, sidxD}
 use Rattle.demands.specs.Told.{upon, clean, indexFrom, entryPart, withEntries, suits}
-use Rattle.demands.proofs.Upons.{each-any, upon-unless, upon-okay, clean-append, clean-shows, upon-field}
+use Rattle.demands.proofs.Upons.{each-any, upon-here, upon-unless, upon-okay, clean-append, clean-shows}
 use Rattle.demands.proofs.Stored.{put-more, entryHere, entry-here}
 
 -- what flows with bytes put into the work area
@@ -516,14 +516,6 @@ module _ {X : Type 0} (p : Place) (span : Span) (h : Index → Flow → ℕ → 
       ∙ count-tests (eqb v 0) (ltb mostEntries v) (eqb (length zs) (entryBytes * v)) _ _
       (λ z l. counted-tree d v f n zs ys e (eqb-true _ _ l) (λ q. eqb-false v 0 z q))
 
-  -- a number before the entries whose bytes are there
-  upon-here : (k : ℕ → Flow → ℕ → List ℕ → Res Index Flow Left) (m : ℕ) (f : Flow) (n : ℕ) (zs ys : List ℕ) → m ≤ length zs →
-      upon (fieldD left plain k m 0 f n (zs ++ ys)) h ≡ upon (k (number (take m zs)) f (n + m) (drop m zs ++ ys)) h
-  upon-here k m f n zs ys l =
-      let t = take-append-le m zs ys l in
-      let d = drop-append-le m zs ys l in
-      upon-field k h m f n (zs ++ ys) (omega (arith, length-append zs ys)) ∙ rw (t, d)
-
   -- what the count and the entries make of an index
   abbrev countedHere : Bool → List ℕ → Flow → List ℕ → Option X
   countedHere t xs f ys =
@@ -548,17 +540,17 @@ module _ {X : Type 0} (p : Place) (span : Span) (h : Index → Flow → ℕ → 
       let d2 : Draft = record { wide = t; id = idHere t xs; scale = scaleHere t xs; time = 0; offset = 0 } in
       let d3 : Draft = record { wide = t; id = idHere t xs; scale = scaleHere t xs; time = timeHere t xs; offset = 0 } in
       let w : ℕ = wide t in
-      upon-here (flagsD p span d0) 3 f (n + 1) (atFlags t xs) ys (r .flags-fit)
-      ∙ upon-here (idD p span d0) 4 f (n + 1 + 3) (atId t xs) ys (r .id-fits)
+      upon-here (flagsD p span d0) h 3 f (n + 1) (atFlags t xs) ys (r .flags-fit)
+      ∙ upon-here (idD p span d0) h 4 f (n + 1 + 3) (atId t xs) ys (r .id-fits)
       ∙ upon-then (idFaults p span (idHere t xs)) _ _ _ h _
-      (upon-here (scaleD p span d1) 4 f (n + 1 + 3 + 4) (atScale t xs) ys (r .scale-fits)
+      (upon-here (scaleD p span d1) h 4 f (n + 1 + 3 + 4) (atScale t xs) ys (r .scale-fits)
       ∙ upon-then (scaleFaults p span (scaleHere t xs)) _ _ _ h _
-      (upon-here (timeD p span d2) w f (n + 1 + 3 + 4 + 4) (atTime t xs) ys (r .time-fits)
+      (upon-here (timeD p span d2) h w f (n + 1 + 3 + 4 + 4) (atTime t xs) ys (r .time-fits)
       ∙ upon-then (timeFaults p span (f .now) (timeHere t xs)) _ _ _ h _
-      (upon-here (offsetD p span d3) w f (n + 1 + 3 + 4 + 4 + w) (atOffset t xs) ys (r .offset-fits)
+      (upon-here (offsetD p span d3) h w f (n + 1 + 3 + 4 + 4 + w) (atOffset t xs) ys (r .offset-fits)
       ∙ upon-then (offsetFaults p span (offsetHere t xs)) _ _ _ h _
-      (upon-here (reservedD p span (draftHere t xs)) 2 f (n + 1 + 3 + 4 + 4 + w + w) (atReserved t xs) ys (r .reserved-fits)
-      ∙ upon-here (countD p span (draftHere t xs)) 2 f (n + 1 + 3 + 4 + 4 + w + w + 2) (atCount t xs) ys (r .count-fits)
+      (upon-here (reservedD p span (draftHere t xs)) h 2 f (n + 1 + 3 + 4 + 4 + w + w) (atReserved t xs) ys (r .reserved-fits)
+      ∙ upon-here (countD p span (draftHere t xs)) h 2 f (n + 1 + 3 + 4 + 4 + w + w + 2) (atCount t xs) ys (r .count-fits)
       ∙ count-tree (draftHere t xs) (countHere t xs) f (n + 1 + 3 + 4 + 4 + w + w + 2 + 2) (atEntries t xs) ys (omega (arith, r .entries-left))))))
 
   -- what is made of an index of the tree
@@ -615,7 +607,7 @@ module _ {X : Type 0} (p : Place) (span : Span) (h : Index → Flow → ℕ → 
       upon (sidxD p span f n (xs ++ ys)) h ≡ andThen (sidxIndex xs) (λ i. pick (suits p span i (f .now)) (h (indexFrom i) (withEntries f p i xs) (span .end) ys) none)
   unfolding sidxD versionD pick
   body-tree f n xs ys e l =
-      upon-here (versionD p span) 1 f n xs ys (omega arith)
+      upon-here (versionD p span) h 1 f n xs ys (omega arith)
       ∙ upon-unless (sidxVersionFaults span (versionHere xs) (n + 1)) _ _ _ h
       ∙ at (clean (sidxVersionFaults span (versionHere xs) (n + 1))) (version-clean span (versionHere xs) (n + 1))
     where

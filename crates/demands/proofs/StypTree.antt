@@ -7,7 +7,6 @@ use mathlib.Core.Bool.{Bool, true, false, not, _||_}
 use native.Mathlib.Omega.{arith}
 use mathlib.Core.Logic.{_⊎_, inl, inr}
 use lib.ListN.{length, take, drop, length-append, length-drop}
-use lib.Seq.{take-append-le, drop-append-le}
 use lib.Dec.{eqb, ltb}
 use borrow.Author.Tests.{eqb-true, eq-eqb, ne-eqb, ltb-true, ltb-false}
 use Rattle.basics.specs.Choose.{pick, andThen}
@@ -23,7 +22,7 @@ use Rattle.state.specs.Opening.{Opened, passed, unlisted}
 use Rattle.descent.specs.Opening.{brandsD, stypD}
 use Rattle.demands.specs.Told.{upon, clean}
 use Rattle.segment.proofs.Said.{then-goes, field-some, field-none}
-use Rattle.demands.proofs.Upons.{upon-unless, clean-shows, upon-field, upon-few}
+use Rattle.demands.proofs.Upons.{upon-here, upon-unless, clean-shows, upon-field, upon-few}
 
 -- which of two numbers is named first does not matter
 eqb-sym : (a b : ℕ) → eqb a b ≡ eqb b a
@@ -92,9 +91,7 @@ module _ {X : Type 0} (brand : ℕ) (span : Span) (f : Flow) (k : Opened → Flo
   brands-tree (suc c) (suc turns) found n zs ys l e t =
       let v = number (take 4 zs) in
       ap (λ (r : Res Opened Flow Left). upon r k) (pick-no (eqb n (span .end)) _ _ (ne-eqb n (span .end) (λ q. omega arith)))
-      ∙ upon-field (λ v g m cs. brandsD turns brand span (found || eqb v brand) g m cs) k 4 f n (zs ++ ys) (omega (arith, length-append zs ys))
-      ∙ ap (λ (bs : List ℕ). upon (brandsD turns brand span (found || eqb (number bs) brand) f (n + 4) (drop 4 (zs ++ ys))) k) (take-append-le 4 zs ys (omega arith))
-      ∙ ap (λ (bs : List ℕ). upon (brandsD turns brand span (found || eqb v brand) f (n + 4) bs) k) (drop-append-le 4 zs ys (omega arith))
+      ∙ upon-here (λ v g m cs. brandsD turns brand span (found || eqb v brand) g m cs) k 4 f n zs ys (omega arith)
       ∙ brands-tree c turns (found || eqb v brand) (n + 4) (drop 4 zs) ys (omega (arith, length-drop 4 zs)) (omega (arith, length-drop 4 zs)) (omega arith)
       ∙ then-cong (words c (drop 4 zs)) _ _
       (λ ws q. ap (λ (b : Bool). pick b (k passed f (span .end) ys) none) (ap (λ b. (found || b) || among brand ws) (eqb-sym v brand) ∙ found-more found (eqb brand v) (among brand ws)))
@@ -110,11 +107,8 @@ module _ {X : Type 0} (brand : ℕ) (span : Span) (f : Flow) (k : Opened → Flo
   styp-tree n xs ys e l m =
       let zs = drop 4 (drop 4 xs) in
       let lz : length zs ≡ length xs - 8 = omega (arith, length-drop 4 xs, length-drop 4 (drop 4 xs)) in
-      let d = drop 4 (drop 4 (xs ++ ys)) in
-      let cutAt : d ≡ zs ++ ys = ap (λ (bs : List ℕ). drop 4 bs) (drop-append-le 4 xs ys (omega arith)) ∙ drop-append-le 4 (drop 4 xs) ys (omega (arith, length-drop 4 xs)) in
-      upon-field (λ major g m cs. fieldD left plain (λ minor h k ds. brandsD (suc (length ds)) brand span false h k ds) 4 0 g m cs) k 4 f n (xs ++ ys) (omega (arith, length-append xs ys))
-      ∙ upon-field (λ minor h k ds. brandsD (suc (length ds)) brand span false h k ds) k 4 f (n + 4) (drop 4 (xs ++ ys)) (omega (arith, length-append xs ys, length-drop 4 (xs ++ ys)))
-      ∙ ap (λ (bs : List ℕ). upon (brandsD (suc (length bs)) brand span false f (n + 4 + 4) bs) k) cutAt
+      upon-here (λ major g m cs. fieldD left plain (λ minor h k ds. brandsD (suc (length ds)) brand span false h k ds) 4 0 g m cs) k 4 f n xs ys (omega arith)
+      ∙ upon-here (λ minor h k ds. brandsD (suc (length ds)) brand span false h k ds) k 4 f (n + 4) (drop 4 xs) ys (omega (arith, length-drop 4 xs))
       ∙ brands-tree (length zs / 4) (suc (length (zs ++ ys))) false (n + 4 + 4) zs ys (omega arith) (omega arith) (omega (arith, length-append zs ys))
       ∙ ap (λ (o : Option (List ℕ)). andThen o (λ brands. pick (among brand brands) (k passed f (span .end) ys) none)) (sym (styp-words xs l m))
 

@@ -1,13 +1,14 @@
 -- Laws of what is made of an accepted reading.
 use Prim.Native.Nat.{ℕ, _+_, _≤_, _<_}
-use mathlib.Core.Path.{_≡_, refl, ap}
+use mathlib.Core.Path.{_≡_, refl, ap, _∙_}
 use mathlib.Core.List.{List, [], _∷_, _++_}
 use mathlib.Core.Option.{Option, some, none}
 use mathlib.Core.Bool.{Bool, true, false, not, _&&_}
 use native.Mathlib.Omega.{arith}
-use lib.ListN.{length, take, drop}
+use lib.ListN.{length, take, drop, length-append}
+use lib.Seq.{take-append-le, drop-append-le}
 use Rattle.basics.specs.Choose.{pick}
-use Rattle.basics.specs.Bytes.{numberFrom}
+use Rattle.basics.specs.Bytes.{numberFrom, number}
 use Rattle.basics.proofs.Options.{absurd-some}
 use Rattle.machine.specs.Faults.{shows, unless}
 use Rattle.machine.specs.Run.{Res, okay, fail, cut, either, after, fieldD, plain}
@@ -88,6 +89,14 @@ module _ {R X : Type 0} (k : ℕ → Flow → ℕ → List ℕ → Res R Flow Le
   pub upon-few : (m : ℕ) (f : Flow) (n : ℕ) (bs : List ℕ) → length bs < m → upon (fieldD left plain k m 0 f n bs) h ≡ none
   unfolding upon
   upon-few m f n bs l = ap (λ r. upon r h) (field-short left k m 0 f n bs l)
+
+-- a number whose bytes are there
+pub upon-here : {R X : Type 0} (k : ℕ → Flow → ℕ → List ℕ → Res R Flow Left) (h : R → Flow → ℕ → List ℕ → Option X) (m : ℕ) (f : Flow) (n : ℕ) (zs ys : List ℕ) → m ≤ length zs →
+    upon (fieldD left plain k m 0 f n (zs ++ ys)) h ≡ upon (k (number (take m zs)) f (n + m) (drop m zs ++ ys)) h
+upon-here k h m f n zs ys l =
+    let t = take-append-le m zs ys l in
+    let d = drop-append-le m zs ys l in
+    upon-field k h m f n (zs ++ ys) (omega (arith, length-append zs ys)) ∙ rw (t, d)
 
 -- Nothing is known of a result, or of a refusal; and a result that there is not.
 abbrev pub Any : {R : Type 0} → R → Flow → ℕ → List ℕ → Type 0
