@@ -7,7 +7,7 @@
 --   rule 5   specs `Leaves`, `leafBoxes`
 --   rule 6   specs `Leaves`, `trafTimes`, `leafTimes`; through the segment: `neverFall`, in `segmentParts`
 --   rule 7   the order of `leavesIn`; when each starts: `segmentParts`, `tile`; what it covers: `covers`
---   limits   of bytes, `limit`, and of times, `timeLimit`: in `segmentParts`
+--   limits   of bytes: `limit`; of times: `timeLimit`; of levels: `levels`; all in `segmentParts`
 use Prim.Native.Nat.{ℕ, zero, suc, _+_, _-_}
 use mathlib.Core.List.{List, [], _∷_, _++_}
 use mathlib.Core.Option.{Option, some, none}
@@ -71,6 +71,7 @@ pub data Part : Type 0 where
   leafPart : Leaf → List ℕ → Part
   indexPart : ℕ → ℕ → Part
 
+-- the leaf of an entry at a position, with its start and its decode times
 unfoldable pub firstTime : List ℕ → ℕ
 firstTime [] = 0
 firstTime (t ∷ ts) = t
