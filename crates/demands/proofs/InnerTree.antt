@@ -10,7 +10,7 @@ use lib.ListN.{length, drop, length-drop}
 use Rattle.basics.specs.Choose.{pick, andThen}
 use Rattle.basics.proofs.Tests.{same-test}
 use Rattle.basics.proofs.Options.{then-cong, then-assoc, then-pick}
-use Rattle.segment.specs.Constants.{workBytes, levelBytes, entryBytes, sidx}
+use Rattle.segment.specs.Constants.{entryBytes, sidx}
 use Rattle.segment.specs.Boxes as tree
 use Rattle.segment.specs.Boxes.{Box, firstBox, sidxIndex, sizes, durations}
 use Rattle.segment.specs.Tree.{Opened, openIndex, Part, indexPart, suitsEntry, innerIndex, underIndex, tile}
@@ -22,7 +22,8 @@ use Rattle.state.specs.declared.Span.{Span}
 use Rattle.state.specs.declared.Level.{Level}
 use Rattle.state.specs.declared.Slot.{Slot}
 use Rattle.state.specs.declared.Index.{Index}
-use Rattle.state.specs.Flow.{Flow, Left, putAll}
+use Rattle.state.specs.Flow.{Flow, Left, workBytes, levelBytes}
+use Rattle.basics.specs.Put.{putAll}
 use Rattle.state.specs.Rows.{innerFaults}
 use Rattle.state.specs.Opening.{spanOf}
 use Rattle.state.specs.Sidx.{under, partOf}

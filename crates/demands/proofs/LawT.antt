@@ -13,7 +13,7 @@ use lib.Seq.{length-take-le, take-all}
 use borrow.Author.Tests.{eq-eqb, ne-eqb, lt-ltb, le-ltb, ltb-true, leb-true, leb-false}
 use Rattle.basics.specs.Choose.{pick, andThen}
 use Rattle.basics.proofs.Picks.{lt-or-ge, pick-yes, pick-no}
-use Rattle.segment.specs.Constants.{limit, timeLimit, workBytes, levelBytes, entryBytes}
+use Rattle.segment.specs.Constants.{limit, timeLimit, entryBytes}
 use Rattle.segment.specs.Boxes as tree
 use Rattle.segment.specs.Boxes.{sizes, durations}
 use Rattle.segment.specs.Leaves.{neverFall}
@@ -30,7 +30,8 @@ use Rattle.state.specs.declared.Level.{Level}
 use Rattle.state.specs.declared.Levels.the-variants as levels
 use Rattle.state.specs.declared.Index.{Index}
 use Rattle.state.specs.declared.FinishAnswer.the-variants as finishes
-use Rattle.state.specs.Flow.{Flow, Left, left, withNow, putAll}
+use Rattle.state.specs.Flow.{Flow, Left, left, withNow, workBytes, levelBytes}
+use Rattle.basics.specs.Put.{putAll}
 use Rattle.state.specs.Sidx.{topmost, partOf}
 use Rattle.state.specs.Stages.{follow, topOf, topLevel, stepStage}
 use Rattle.state.specs.Step.{pastMaterial, flow0}

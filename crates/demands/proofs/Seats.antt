@@ -20,7 +20,7 @@ use Rattle.basics.specs.Put.{putAll}
 use Rattle.state.specs.Rows.{noRoom}
 use Rattle.state.specs.Traf.{saw}
 use Rattle.demands.specs.Told.{climb}
-use Rattle.lookup.specs.Rows.{rowOf, rowsOf}
+use Rattle.covering.specs.Records.{recordOf, recordsOf}
 use Rattle.demands.specs.Verdict.{Verdict, full, fine, told, seen0, enlist, NotFine, Listing, seat}
 use Rattle.demands.proofs.Stored.{put-length, put-more}
 use Rattle.demands.proofs.Verdicts.{pick-not, told-not}
@@ -78,8 +78,8 @@ room-put table i xs = rw (put-length table i xs)
 
 -- leaves that the table has room for
 pub seat-fits : (ls : List Leaf) (n : ℕ) (table : List ℕ) → n + length ls ≤ room table →
-    seat ls n table ≡ fine (record { leaves = n + length ls; table = putAll table (recordNumbers * n) (rowsOf ls) })
-unfolding seat putAll rowsOf pick
+    seat ls n table ≡ fine (record { leaves = n + length ls; table = putAll table (recordNumbers * n) (recordsOf ls) })
+unfolding seat putAll recordsOf pick
 seat-fits [] n table h = let q : n + 0 ≡ n = omega arith in rw q
 seat-fits (l ∷ ls) n table h =
     let next : List ℕ = putRecord table n (recordOf l) in

@@ -42,9 +42,10 @@ use Rattle.state.specs.Rows.{is, topLengths, innerFaults}
 use Rattle.state.specs.Opening.{spanOf, stepOpening}
 use Rattle.state.specs.Sidx.{under, sidxStart, stepSidx}
 use Rattle.state.specs.Leaf.{leafSo0, stepLeaf}
-use Rattle.state.specs.Levels.{Entry, entryAt, entryPlace, inmost, depth, took, tookEntry, push, passedAll, stillOne, stillTwo, stillThree, stillOpen, entryFaults, slotOf}
+use Rattle.state.specs.Levels.{entryAt, entryPlace, inmost, depth, took, tookEntry, push, passedAll, stillOne, stillTwo, stillThree, stillOpen, entryFaults, slotOf}
+use Rattle.state.specs.declared.StoredEntry.{StoredEntry}
 use Rattle.state.specs.Stages.{gapKind, gapBoxes, wrapGap, stepGap, onward, follow, topOf, topLevel, indexEnds}
-use Rattle.state.specs.Stages.{InnerBody, innerKind, beginInner, wrapInner, innerLevel, liftInner, stepInner, leafRow, liftLeaf, stepSlot, stepEntry, stepStage}
+use Rattle.state.specs.Stages.{InnerBody, innerKind, beginInner, wrapInner, innerLevel, liftInner, stepInner, leafRecord, liftLeaf, stepSlot, stepEntry, stepStage}
 use Rattle.state.specs.Step.{stage0}
 use Rattle.descent.specs.Sidx.{sidxD}
 use Rattle.descent.specs.Opening.{skipTo}
@@ -128,10 +129,10 @@ in-gap top l end n bs r = inside left (stepGap end) stepStage (stage.Gap top l e
 
 in-leaf : (top : Top) (ls : Levels) (slot : Slot) (n : ℕ) (bs : List ℕ) (r : Sub LeafBoxes Seen Flow Left) →
     S n bs (liftLeaf top ls slot r)
-    ≡ after (cont left (stepLeaf (top .id) slot) n bs r) (λ seen g m cs. S m cs (follow top ls (listed g (leafRow slot (g .now) (seen .first)) (slot .until) (seen .last))))
+    ≡ after (cont left (stepLeaf (top .id) slot) n bs r) (λ seen g m cs. S m cs (follow top ls (listed g (leafRecord slot (g .now) (seen .first)) (slot .until) (seen .last))))
 unfolding stepStage
 in-leaf top ls slot n bs r =
-    inside left (stepLeaf (top .id) slot) stepStage (stage.Leaf top ls slot) (λ m seen g. follow top ls (listed g (leafRow slot (g .now) (seen .first)) (slot .until) (seen .last)))
+    inside left (stepLeaf (top .id) slot) stepStage (stage.Leaf top ls slot) (λ m seen g. follow top ls (listed g (leafRecord slot (g .now) (seen .first)) (slot .until) (seen .last)))
     (λ s g m b. refl) n bs r
 
 inner-steps : (top : Top) (ls : Levels) (slot : Slot) (s : Box InnerBody) (f : Flow) (n b : ℕ) → stepStage (stage.Inner top ls slot (wrapInner s)) f n b ≡ stepInner top ls slot s f n b
@@ -226,9 +227,9 @@ module _ (top : Top) where
         ∙ sym (after-assoc (innerD top slot (depth ls) f n (b ∷ bs)) (λ x g m cs. inner (suc (depth ls)) (innerLevel x slot) g m cs) next)
     slot-run false slot f n b bs =
         in-leaf top (tookEntry ls) slot (suc n) bs (stepLeaf (top .id) slot (leafBox.Head (leafSo0 (f .last)) at.First) f n b)
-        ∙ ap (λ (r : Res Seen Flow Left). after r (λ seen g m cs. next tt (listed g (leafRow slot (g .now) (seen .first)) (slot .until) (seen .last)) m cs))
+        ∙ ap (λ (r : Res Seen Flow Left). after r (λ seen g m cs. next tt (listed g (leafRecord slot (g .now) (seen .first)) (slot .until) (seen .last)) m cs))
         (sym (leaf-run (top .id) slot f n (b ∷ bs)))
-        ∙ sym (after-assoc (leafD (top .id) slot f n (b ∷ bs)) (λ seen g m cs. okay tt (listed g (leafRow slot (g .now) (seen .first)) (slot .until) (seen .last)) m cs) next)
+        ∙ sym (after-assoc (leafD (top .id) slot f n (b ∷ bs)) (λ seen g m cs. okay tt (listed g (leafRecord slot (g .now) (seen .first)) (slot .until) (seen .last)) m cs) next)
 
     entry-run : (f : Flow) (n : ℕ) (bs : List ℕ) → run left stepStage (stage.Entry top ls) f n bs ≡ after (entryD inner top (depth ls) (inmost ls) f n bs) next
     unfolding run stepStage stepEntry entryD readBackD either contBy

@@ -34,7 +34,8 @@ use Rattle.state.specs.declared.Sums.{Sums}
 use Rattle.state.specs.declared.Index.{Index}
 use Rattle.state.specs.declared.EntryPart.{EntryPart}
 use Rattle.state.specs.declared.EntryPart.the-variants as entry
-use Rattle.state.specs.Flow.{Flow, Left, left, withWork, putAll}
+use Rattle.state.specs.Flow.{Flow, Left, left, withWork}
+use Rattle.basics.specs.Put.{putAll}
 use Rattle.state.specs.Sidx.{sidxVersionFaults, idFaults, scaleFaults, timeFaults, offsetFaults, countFaults, sumFaults, entrySizeFaults}
 use Rattle.state.specs.Sidx.{Place, topmost, under, partOf, wideMore, indexOf, sizeOf, plusSize, plusDuration, nextEntry, wordPlace, numberPlace, keepByte}
 use Rattle.descent.specs.Sidx.{closeD, entryD, entriesD, countedD, countD, reservedD, offsetD, timeD, scaleD, idD, flagsD, versionD, sidxD}

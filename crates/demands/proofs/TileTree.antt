@@ -24,14 +24,14 @@ use Rattle.state.specs.declared.Seen.{Seen}
 use Rattle.state.specs.declared.Top.{Top}
 use Rattle.state.specs.declared.Level.{Level}
 use Rattle.state.specs.declared.Slot.{Slot}
-use Rattle.state.specs.Flow.{Flow, Left, listed}
+use Rattle.state.specs.Flow.{Flow, Left, listed, workBytes, levelBytes}
 use Rattle.state.specs.Rows.{noRoom}
 use Rattle.state.specs.Levels.{entryAt, altered, slotOf, took}
 use Rattle.state.specs.Stages.{innerLevel, leafRecord}
 use Rattle.descent.specs.Leaf.{leafD}
 use Rattle.descent.specs.Whole.{Under, innerD, slotD, readBackD, entryD, entriesD}
 use Rattle.demands.specs.Told.{climb}
-use Rattle.lookup.specs.Rows.{rowOf}
+use Rattle.covering.specs.Records.{recordOf}
 use Rattle.demands.specs.Verdict.{Verdict, judge, told, seen0, enlist, Meets}
 use Rattle.demands.proofs.Verdicts.{meets-trans, judge-after, judge-not, judge-told, told-then, told-meets, enlist-both}
 use Rattle.demands.proofs.Stored.{Alike, alike-trans, alike-refl, entryFrom, Holds, holds-alike}
@@ -105,12 +105,12 @@ module _ (X : Type 0) (top : Top) (depth : ℕ) where
     leaf-told ts = enlist (leafPart (leafOf n (f .now) e ts) ts ∷ []) g K
 
     listed-like : (ts : List ℕ) (s : Seen) → s .first ≡ firstTime ts →
-        Meets (leaf-out s f (slot .end) ys) (K (listed g (rowOf (leafOf n (f .now) e ts)) (f .now + e .duration) (s .last)))
+        Meets (leaf-out s f (slot .end) ys) (K (listed g (recordOf (leafOf n (f .now) e ts)) (f .now + e .duration) (s .last)))
     unfolding listed
     listed-like ts s q =
         let e1 : n + e .size - n ≡ e .size = omega arith in
         let e2 : f .now + e .duration - f .now ≡ e .duration = omega arith in
-        follows (listed f (leafRow slot (f .now) (s .first)) (slot .until) (s .last)) (listed g (rowOf (leafOf n (f .now) e ts)) (f .now + e .duration) (s .last)) refl (alike-refl _ _)
+        follows (listed f (leafRecord slot (f .now) (s .first)) (slot .until) (s .last)) (listed g (recordOf (leafOf n (f .now) e ts)) (f .now + e .duration) (s .last)) refl (alike-refl _ _)
         (record { leaves = ap (λ (k : ℕ). suc k) (lk .leaves); last = refl; table = rw (e1, e2, q, lk .table, lk .leaves) })
 
     same-room : (t : Bool) → noRoom (f .leaves) (f .table) ≡ t → noRoom (g .leaves) (g .table) ≡ t
