@@ -42,7 +42,7 @@ use Rattle.covering.proofs.Listed.{lookup-refuses}
 use Rattle.covering.proofs.TheLeaf.{segment-found, segment-before, segment-past, rows-length, lookup-listed}
 use Rattle.demands.specs.Verdict.{Verdict, wrong, full, fine, told, Meets, Listing, seat, verdictBy, verdictOf}
 use Rattle.demands.specs.Demands.{stated, Accepts, BeginsWith}
-use Rattle.demands.proofs.Stored.{put-between}
+use Rattle.basics.proofs.Put.{put-between}
 use Rattle.demands.proofs.Seats.{seat-fits, seat-full}
 use Rattle.demands.proofs.LawD.{law-d}
 use Rattle.demands.proofs.LawT.{law-t}

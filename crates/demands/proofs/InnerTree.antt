@@ -38,7 +38,8 @@ use Rattle.demands.proofs.SegmentRun.{too-deep}
 use Rattle.demands.proofs.Shown.{kindOf, inner-shown}
 use Rattle.demands.proofs.HeadTree.{box-tree}
 use Rattle.demands.proofs.SidxTree.{suits-under, sidx-fitting, SidxFacts, sidx-facts}
-use Rattle.demands.proofs.Stored.{alike-trans, alike-less, put-length, put-alike, entryFrom, holds}
+use Rattle.demands.proofs.Stored.{alike-trans, alike-less, put-alike, entryFrom, holds}
+use Rattle.basics.proofs.Put.{put-length}
 use Rattle.demands.proofs.TileTree.{Like, Goes, Follows, Deeper, tile-meets}
 
 -- An inner index suits its place where it suits its entry.

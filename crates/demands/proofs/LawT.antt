@@ -41,7 +41,8 @@ use Rattle.demands.specs.Told.{indexFrom, entryPart, withEntries}
 use Rattle.demands.specs.Verdict.{Verdict, wrong, full, fine, judge, told, enlist, NotFine, Meets, Listing, seat, verdictBy, verdictOf}
 use Rattle.demands.proofs.Verdicts.{meets-equal, meets-trans, judge-after, judge-cong, judge-not, judge-told, told-then, told-cong, told-meets, told-not, enlist-not, pick-not}
 use Rattle.demands.proofs.SegmentRun.{S, gap-consumed, top-run}
-use Rattle.demands.proofs.Stored.{put-length, holds}
+use Rattle.demands.proofs.Stored.{holds}
+use Rattle.basics.proofs.Put.{put-length}
 use Rattle.demands.proofs.SidxTree.{SidxFacts, sidx-facts}
 use Rattle.demands.proofs.TileTree.{Like, Goes, Follows, tells, tile-meets}
 use Rattle.demands.proofs.InnerTree.{at-level}

@@ -22,7 +22,7 @@ use Rattle.state.specs.Traf.{saw}
 use Rattle.demands.specs.Told.{climb}
 use Rattle.covering.specs.Records.{recordOf, recordsOf}
 use Rattle.demands.specs.Verdict.{Verdict, full, fine, told, seen0, enlist, NotFine, Listing, seat}
-use Rattle.demands.proofs.Stored.{put-length, put-more}
+use Rattle.basics.proofs.Put.{put-length, put-more}
 use Rattle.demands.proofs.Verdicts.{pick-not, told-not}
 
 -- times that never fall, first some and then others

@@ -41,7 +41,8 @@ use Rattle.state.specs.Sidx.{Place, topmost, under, partOf, wideMore, indexOf, 
 use Rattle.descent.specs.Sidx.{closeD, entryD, entriesD, countedD, countD, reservedD, offsetD, timeD, scaleD, idD, flagsD, versionD, sidxD}
 use Rattle.demands.specs.Told.{upon, clean, indexFrom, entryPart, withEntries, suits}
 use Rattle.demands.proofs.Upons.{each-any, upon-here, upon-unless, upon-okay, clean-append, clean-shows}
-use Rattle.demands.proofs.Stored.{put-more, entryHere, entry-here}
+use Rattle.demands.proofs.Stored.{entryHere, entry-here}
+use Rattle.basics.proofs.Put.{put-more}
 
 -- what flows with bytes put into the work area
 abbrev pub putInto : Flow → ℕ → List ℕ → Flow

@@ -6,9 +6,10 @@ use mathlib.Core.Option.{some, none}
 use mathlib.Core.Bool.{Bool, true, false, not}
 use native.Mathlib.Omega.{arith}
 use lib.Dec.{eqb, leb}
-use lib.ListN.{length, getD, take, drop, set, length-append, length-take, length-drop, take-append-drop}
-use lib.Seq.{sets, length-sets, sets-eq, ext-getD, getD-take, getD-drop, getD-set-other, take-append-le, drop-append-le, drop-append-add, drop-drop, length-take-le}
+use lib.ListN.{length, getD, take, drop, length-append, length-take, length-drop, take-append-drop}
+use lib.Seq.{ext-getD, getD-take, getD-drop, take-append-le, drop-append-le, drop-append-add, drop-drop, length-take-le}
 use borrow.Author.Tests.{leb-true, leb-false, eq-eqb, ne-eqb}
+use Rattle.basics.proofs.Put.{put-length, put-before, put-between}
 use Rattle.table.specs.Table.{room}
 use Rattle.basics.specs.Choose.{pick, andThen}
 use Rattle.basics.specs.Bytes.{number}
@@ -36,34 +37,8 @@ alike-refl a w = record { long = refl; same = λ i h. refl }
 pub alike-less : {a b : ℕ} {u v : List ℕ} → a ≤ b → Alike b u v → Alike a u v
 alike-less {a} {b} l p = record { long = p .long; same = λ i h. p .same i (omega arith) }
 
--- Numbers put one by one are a run of stores.
-put-sets : (w : List ℕ) (i : ℕ) (xs : List ℕ) → putAll w i xs ≡ sets w i xs
-unfolding putAll
-put-sets w i [] = refl
-put-sets w i (x ∷ xs) = put-sets (set w i x) (suc i) xs
-
--- they leave the length
-pub put-length : (w : List ℕ) (i : ℕ) (xs : List ℕ) → length (putAll w i xs) ≡ length w
-put-length w i xs = ap length (put-sets w i xs) ∙ length-sets w i xs
-
--- where there is room they stand between what was before them and what was after them
-pub put-between : (w : List ℕ) (i : ℕ) (xs : List ℕ) → i + length xs ≤ length w → putAll w i xs ≡ take i w ++ xs ++ drop (i + length xs) w
-put-between w i xs h = put-sets w i xs ∙ sets-eq xs w i h
-
--- they leave what is before them
-put-below : (w : List ℕ) (i : ℕ) (xs : List ℕ) (j : ℕ) → j < i → getD (putAll w i xs) j 0 ≡ getD w j 0
-unfolding putAll
-put-below w i [] j h = refl
-put-below w i (x ∷ xs) j h = put-below (set w i x) (suc i) xs j (omega arith) ∙ getD-set-other w i j x 0 (λ q. omega arith)
-
 pub put-alike : (a : ℕ) (w : List ℕ) (i : ℕ) (xs : List ℕ) → a ≤ i → Alike a w (putAll w i xs)
-put-alike a w i xs h = record { long = sym (put-length w i xs); same = λ j l. sym (put-below w i xs j (omega arith)) }
-
--- numbers put, and then more after them
-pub put-more : (w : List ℕ) (i : ℕ) (xs ys : List ℕ) → putAll (putAll w i xs) (i + length xs) ys ≡ putAll w i (xs ++ ys)
-unfolding putAll
-put-more w i [] ys = let q : i + 0 ≡ i = omega arith in rw q
-put-more w i (x ∷ xs) ys = let q : i + suc (length xs) ≡ suc i + length xs = omega arith in rw q (put-more (set w i x) (suc i) xs ys)
+put-alike a w i xs h = record { long = sym (put-length w i xs); same = λ j l. sym (put-before w i xs j (omega arith)) }
 
 -- a word below the place up to which two areas are alike
 pub word-alike : {a : ℕ} {v w : List ℕ} (i : ℕ) → Alike a v w → i + 4 ≤ a → wordAt v i ≡ wordAt w i

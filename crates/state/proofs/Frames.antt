@@ -265,9 +265,9 @@ grown-same leaves table = record { more = omega arith; long = refl; before = λ 
 grown-one : (leaves : ℕ) (table : List ℕ) (r : Record) → Grown leaves table (suc leaves) (putRecord table leaves r)
 grown-one leaves table r = record {
   more = omega arith;
-  long = put-length (numbersOf r) table (recordNumbers * leaves);
-  before = λ j h. put-before (numbersOf r) table (recordNumbers * leaves) j h;
-  past = λ j h. put-past (numbersOf r) table (recordNumbers * leaves) j (omega arith);
+  long = put-length table (recordNumbers * leaves) (numbersOf r);
+  before = λ j h. put-before table (recordNumbers * leaves) (numbersOf r) j h;
+  past = λ j h. put-past table (recordNumbers * leaves) (numbersOf r) j (omega arith);
 }
 
 pub grown-twice : (k : ℕ) (t : List ℕ) (k' : ℕ) (t' : List ℕ) (k'' : ℕ) (t'' : List ℕ) → Grown k t k' t' → Grown k' t' k'' t'' → Grown k t k'' t''
