@@ -1,4 +1,5 @@
 pub mod Choose
 pub mod Bytes
 pub mod Put
+pub mod Headers
 pub mod Outcome

@@ -21,6 +21,11 @@ pub const MOOF: u64 = 1836019558;
 
 pub const MDAT: u64 = 1835295092;
 
+// How many bytes a header has: with a size of 32 bits, and with one of 64.
+const SHORT: u64 = 8;
+
+const LONG: u64 = 16;
+
 // What a byte makes of a header: it is taken, or it is refused.
 pub enum HeadStep {
     Taken(HeadSo),
@@ -58,7 +63,7 @@ fn first_byte(end: u64, n: u64, b: u8) -> HeadStep
     requires { ⌜ n < limit ⌝ }
     ensures { λ r. ⌜ ((f : Flow) → viewHead f r ≡ stepHead left end Head.First f n b) ⌝ }
 {
-    if end < n + 8 {
+    if end < n + SHORT {
         return HeadStep::Bad(Refusal {
             number: 5,
             place: n,
@@ -101,10 +106,10 @@ fn sized_by(end: u64, pos: u64, size: u64, kind: u64) -> HeadStep
             pos,
             kind,
             size,
-            head: 8,
+            head: SHORT,
         }));
     }
-    if end < pos + 16 {
+    if end < pos + LONG {
         return HeadStep::Bad(Refusal {
             number: 5,
             place: pos,
@@ -144,7 +149,7 @@ fn large_byte(end: u64, pos: u64, kind: u64, more: u64, acc: u64, n: u64, b: u8)
             pos,
             kind,
             size: v,
-            head: 16,
+            head: LONG,
         }));
     }
     HeadStep::Taken(HeadSo::Going(Head::Large {

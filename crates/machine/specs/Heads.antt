@@ -3,6 +3,7 @@ use Prim.Native.Nat.{ℕ, zero, suc, _+_, _*_}
 use mathlib.Core.List.{List, [], _∷_, _++_}
 use lib.Dec.{eqb, ltb}
 use Rattle.basics.specs.Choose.{pick}
+use Rattle.basics.specs.Headers.{shortHeader, longHeader}
 use Rattle.machine.specs.Faults.{shows, unless}
 use Rattle.machine.specs.Run.{Sub, go, done, bad, Res, okay, fail, cut, fieldD, plain}
 use Rattle.machine.specs.declared.Refusal.{Refusal}
@@ -12,11 +13,11 @@ use Rattle.machine.specs.declared.Head.the-variants as at
 
 -- row 5: under 8 bytes remain for a box (its first byte)
 abbrev pub underEight : ℕ → ℕ → List Refusal
-underEight end pos = shows (ltb end (pos + 8)) 5 pos
+underEight end pos = shows (ltb end (pos + shortHeader)) 5 pos
 
 -- row 5: size 1 with under 16 remaining (byte 8)
 abbrev pub underSixteen : ℕ → ℕ → List Refusal
-underSixteen end pos = shows (ltb end (pos + 16)) 5 pos
+underSixteen end pos = shows (ltb end (pos + longHeader)) 5 pos
 
 -- rows 4 and 5, at H: a size under the header's own length; a box that ends past its container
 abbrev pub sizeFaults : ℕ → Header → List Refusal
@@ -35,7 +36,7 @@ module _ {F L : Type 0} (left : F → L) (end : ℕ) where
   sized pos size kind f =
       pick (eqb size 1)
       (unless (underSixteen end pos) (λ x. bad x (left f)) (go (at.Large pos kind 7 0) f))
-      (done (header pos kind size 8) f)
+      (done (header pos kind size shortHeader) f)
 
   unfoldable pub stepHead : Head → F → ℕ → ℕ → Sub Head Header F L
   stepHead at.First f n b = unless (underEight end n) (λ x. bad x (left f)) (go (at.Size n 2 b) f)
@@ -43,7 +44,7 @@ module _ {F L : Type 0} (left : F → L) (end : ℕ) where
   stepHead (at.Size pos (suc m) acc) f n b = go (at.Size pos m (acc * 256 + b)) f
   stepHead (at.Kind pos size zero acc) f n b = sized pos size (acc * 256 + b) f
   stepHead (at.Kind pos size (suc m) acc) f n b = go (at.Kind pos size m (acc * 256 + b)) f
-  stepHead (at.Large pos kind zero acc) f n b = done (header pos kind (acc * 256 + b) 16) f
+  stepHead (at.Large pos kind zero acc) f n b = done (header pos kind (acc * 256 + b) longHeader) f
   stepHead (at.Large pos kind (suc m) acc) f n b = go (at.Large pos kind m (acc * 256 + b)) f
 
   -- by structure
@@ -51,8 +52,8 @@ module _ {F L : Type 0} (left : F → L) (end : ℕ) where
   sizedD pos size kind f n bs =
       pick (eqb size 1)
       (unless (underSixteen end pos) (λ x. fail x (left f) n)
-      (fieldD left plain (λ large g m cs. okay (header pos kind large 16) g m cs) 8 0 f n bs))
-      (okay (header pos kind size 8) f n bs)
+      (fieldD left plain (λ large g m cs. okay (header pos kind large longHeader) g m cs) 8 0 f n bs))
+      (okay (header pos kind size shortHeader) f n bs)
 
   unfoldable pub headD : F → ℕ → List ℕ → Res Header F L
   headD f n [] = cut (left f) n

@@ -7,6 +7,7 @@ use lib.Dec.{eqb, ltb}
 use lib.ListN.{length, take, drop}
 use Rattle.basics.specs.Choose.{pick, andThen}
 use Rattle.basics.specs.Bytes.{number}
+use Rattle.basics.specs.Headers.{shortHeader, longHeader}
 use Rattle.segment.specs.Constants.{entryBytes, typeBit, mostEntries, styp, sidx, moof, mdat}
 
 -- an answer where a test holds, and one where it does not
@@ -48,8 +49,8 @@ firstBox xs =
     andThen (field 4 xs) (λ size.
     andThen (field 4 (size .rest)) (λ kind.
     pick (eqb (size .value) 1)
-    (andThen (field 8 (kind .rest)) (λ long. boxOf 16 (long .value) (kind .value) (long .rest)))
-    (boxOf 8 (size .value) (kind .value) (kind .rest))))
+    (andThen (field 8 (kind .rest)) (λ long. boxOf longHeader (long .value) (kind .value) (long .rest)))
+    (boxOf shortHeader (size .value) (kind .value) (kind .rest))))
 
 -- A list of boxes: all the bytes, cut into whole boxes.
 unfoldable pub cut : ℕ → List ℕ → Option (List Box)
