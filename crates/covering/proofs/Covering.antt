@@ -53,7 +53,12 @@ covering-lowest (suc k) i table t j e = at (recordCovers (recordAt table i) t) r
         let rest = later h in
         let low = rest .from in
         let high = rest .below in
-        record { from = omega arith; below = omega arith; covering = rest .covering; lower = λ m from to. from-here (λ n. recordCovers (recordAt table n) t ≡ false) i m from here (λ on. rest .lower m on to) }
+        record {
+          from = omega arith;
+          below = omega arith;
+          covering = rest .covering;
+          lower = λ m from to. from-here (λ n. recordCovers (recordAt table n) t ≡ false) i m from here (λ on. rest .lower m on to);
+        }
 
 -- The lowest-numbered record that covers the time is found.
 pub lowest-covering : (k i : ℕ) (table : List ℕ) (t j : ℕ) → Lowest k i table t j → coveringFrom k i table t ≡ some j

@@ -16,9 +16,10 @@ use Rattle.segment.specs.Parts.{At}
 use Rattle.machine.specs.Faults.{refusal}
 use Rattle.machine.specs.declared.Refusal.{Refusal}
 use Rattle.table.specs.declared.Record.{Record}
+use Rattle.table.proofs.ReadBack.{by-numbers}
 use Rattle.covering.specs.declared.LookupAnswer.the-variants as answer
 use Rattle.covering.specs.Lookup.{recordCovers, coveringFrom, outside, found, lookIn}
-use Rattle.table.specs.Table.{recordAt, numbersOf}
+use Rattle.table.specs.Table.{recordAt, numbersOf, recordNumbers}
 use Rattle.covering.specs.Records.{recordOf, recordsOf, NoLeafCovers, outsideNumber}
 use Rattle.covering.proofs.Covering.{Lowest, covering-lowest, lowest-covering, none-covers, covers-none}
 
@@ -31,15 +32,13 @@ covers-alike l t = at (leb (l .start) t)
     at true = refl
     at false = refl
 
-skip-row : (l : Leaf) (more : List ℕ) (i k : ℕ) → getD (numbersOf (recordOf l) ++ more) (6 * suc i + k) 0 ≡ getD more (6 * i + k) 0
-skip-row l more i k =
-    let six : 6 * suc i + k ≡ suc (suc (suc (suc (suc (suc (6 * i + k)))))) = omega arith in
+skip-numbers : (l : Leaf) (more : List ℕ) (i k : ℕ) → getD (numbersOf (recordOf l) ++ more) (recordNumbers * suc i + k) 0 ≡ getD more (recordNumbers * i + k) 0
+skip-numbers l more i k =
+    let six : recordNumbers * suc i + k ≡ suc (suc (suc (suc (suc (suc (recordNumbers * i + k)))))) = omega arith in
     ap (λ (n : ℕ). getD (numbersOf (recordOf l) ++ more) n 0) six
 
 skip-record : (l : Leaf) (more : List ℕ) (i : ℕ) → recordAt (numbersOf (recordOf l) ++ more) (suc i) ≡ recordAt more i
-unfolding recordAt
-skip-record l more i =
-    λ j. record { position = skip-row l more i 0 j; size = skip-row l more i 1 j; start = skip-row l more i 2 j; duration = skip-row l more i 3 j; sap = skip-row l more i 4 j; time = skip-row l more i 5 j }
+skip-record l more i = by-numbers _ more (suc i) i (λ k h. skip-numbers l more i k)
 
 first-record : (l : Leaf) (more : List ℕ) → recordAt (numbersOf (recordOf l) ++ more) 0 ≡ recordOf l
 unfolding recordAt
@@ -99,13 +98,6 @@ none-found ls rest t h =
 pub refused-exact : (ls : List Leaf) (rest : List ℕ) (t : ℕ) → NoLeafCovers ls t → lookIn (length ls) (recordsOf ls ++ rest) t ≡ answer.Refused (refusal (outsideNumber ls t) 0)
 unfolding found
 refused-exact ls rest t h = ap (λ (o : Option ℕ). found (length ls) (recordsOf ls ++ rest) t o) (none-found ls rest t h) ∙ outside-number ls rest t
-
--- For every time: the lowest-numbered leaf that covers it is found, and where none does the time is refused.
-pub lookup-exact : (ls : List Leaf) (rest : List ℕ) (t : ℕ) →
-    ((i : ℕ) (l : Leaf) → At ls i l → tree.covers t l ≡ true → ((j : ℕ) (m : Leaf) → j < i → At ls j m → tree.covers t m ≡ false) →
-    lookIn (length ls) (recordsOf ls ++ rest) t ≡ answer.Found (suc i) (recordOf l))
-    × (NoLeafCovers ls t → lookIn (length ls) (recordsOf ls ++ rest) t ≡ answer.Refused (refusal (outsideNumber ls t) 0))
-lookup-exact ls rest t = (found-exact ls rest t, refused-exact ls rest t)
 
 -- What is found is a leaf that covers the time, its number and its record, and no earlier leaf covers it.
 pub found-leaf : (ls : List Leaf) (rest : List ℕ) (t n : ℕ) (r : Record) → lookIn (length ls) (recordsOf ls ++ rest) t ≡ answer.Found n r →

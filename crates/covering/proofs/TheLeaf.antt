@@ -104,17 +104,17 @@ module _ (brand : ℕ) (xs : List ℕ) (ls : List Leaf) (top : Opened) (accepted
   pub segment-past : top .index .time + durations (top .index .entries) ≤ t → lookIn (length ls) (recordsOf ls ++ rest) t ≡ answer.Refused (refusal 24 0)
   segment-past = follow-past ls (top .index .time) (top .index .time + durations (top .index .entries)) (leaves-span brand xs ls top accepted opened) rest t
 
-pub rows-length : (ls : List Leaf) → length (recordsOf ls) ≡ recordNumbers * length ls
+pub records-length : (ls : List Leaf) → length (recordsOf ls) ≡ recordNumbers * length ls
 unfolding recordsOf
-rows-length [] = refl
-rows-length (l ∷ ls) = let rest = rows-length ls in omega arith
+records-length [] = refl
+records-length (l ∷ ls) = let rest = records-length ls in omega arith
 
 -- An accepted state inside the ranges that counts these leaves looks them up.
 pub lookup-listed : (n : ℕ) (ls : List Leaf) (top : Top) (rest : List ℕ) (t : ℕ) → inRange (state.Accepted n (length ls) top) ≡ true →
     lookupOf (state.Accepted n (length ls) top) (recordsOf ls ++ rest) t ≡ lookIn (length ls) (recordsOf ls ++ rest) t
 unfolding lookupOf lookupState
 lookup-listed n ls top rest t fine =
-    let rows = rows-length ls in
+    let rows = records-length ls in
     let both = length-append (recordsOf ls) rest in
     pick-yes (inRange (state.Accepted n (length ls) top)) _ _ fine
     ∙ pick-no (ltb (length (recordsOf ls ++ rest)) (recordNumbers * length ls)) _ _ (le-ltb (length (recordsOf ls ++ rest)) (recordNumbers * length ls) (omega arith))

@@ -39,7 +39,7 @@ use Rattle.covering.specs.declared.LookupAnswer.the-variants as answer
 use Rattle.covering.specs.Records.{recordOf, recordsOf, NoLeafCovers}
 use Rattle.covering.specs.Lookup.{lookIn, lookupOf}
 use Rattle.covering.proofs.Listed.{lookup-refuses}
-use Rattle.covering.proofs.TheLeaf.{segment-found, segment-before, segment-past, rows-length, lookup-listed}
+use Rattle.covering.proofs.TheLeaf.{segment-found, segment-before, segment-past, records-length, lookup-listed}
 use Rattle.demands.specs.Verdict.{Verdict, wrong, full, fine, told, Meets, Listing, seat, verdictBy, verdictOf}
 use Rattle.demands.specs.Demands.{stated, Accepts, BeginsWith}
 use Rattle.basics.proofs.Put.{put-between}
@@ -132,9 +132,9 @@ module _ (brand : ℕ) (bytes work table : List ℕ) (all : AllBytes bytes) (lon
       (top, opened, there ∙ accepted-alike n (length bytes) (f .leaves) k says (stated (top .index)) count leaves is-top)
 
   -- the rows of leaves at the front of the table
-  rows-front : (ls : List Leaf) → length ls ≤ room table → putAll table (recordNumbers * 0) (recordsOf ls) ≡ recordsOf ls ++ drop (recordNumbers * length ls) table
-  rows-front ls fits =
-      let rows : length (recordsOf ls) ≡ recordNumbers * length ls = rows-length ls in
+  records-front : (ls : List Leaf) → length ls ≤ room table → putAll table (recordNumbers * 0) (recordsOf ls) ≡ recordsOf ls ++ drop (recordNumbers * length ls) table
+  records-front ls fits =
+      let rows : length (recordsOf ls) ≡ recordNumbers * length ls = records-length ls in
       let q : 0 + length (recordsOf ls) ≡ recordNumbers * length ls = omega arith in
       put-between table 0 (recordsOf ls) (omega (arith, room-fits table)) ∙ ap (λ (k : ℕ). recordsOf ls ++ drop k table) q
 
@@ -150,7 +150,7 @@ module _ (brand : ℕ) (bytes work table : List ℕ) (all : AllBytes bytes) (lon
       let q : 0 + length ls ≡ length ls = omega arith in
       let a : o .answer ≡ finishes.Listed (length ls) = v .0 ∙ ap (λ (k : ℕ). finishes.Listed k) q in
       let (top, opened, st) = whole-state ls e (length ls) a in
-      record { answers = a; top = top; opened = opened; states = st; lists = v .1 ∙ rows-front ls fits }
+      record { answers = a; top = top; opened = opened; states = st; lists = v .1 ∙ records-front ls fits }
 
   -- A segment of the tree with more leaves is refused with 15 at the first leaf beyond the room.
   pub refuses-full : (ls : List Leaf) (l : Leaf) → segment brand bytes ≡ some ls → At ls (room table) l → o .answer ≡ finishes.Refused (refusal 15 (l .position))

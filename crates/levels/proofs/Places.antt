@@ -26,7 +26,8 @@ four-bytes w i h =
     ∙ ap (λ (l : List ℕ). getD w (i + 2) 0 ∷ l) (next-byte w (i + 3) (i + 4) (omega arith) (omega arith))))
 
 -- the number that four bytes spell
-pub word-law : (w : List ℕ) (i : ℕ) (a b c d : ℕ) → i + 4 ≤ length w → a ≡ getD w i 0 → b ≡ getD w (i + 1) 0 → c ≡ getD w (i + 2) 0 → d ≡ getD w (i + 3) 0 → ((a * 256 + b) * 256 + c) * 256 + d ≡ wordAt w i
+pub word-law : (w : List ℕ) (i : ℕ) (a b c d : ℕ) → i + 4 ≤ length w →
+    a ≡ getD w i 0 → b ≡ getD w (i + 1) 0 → c ≡ getD w (i + 2) 0 → d ≡ getD w (i + 3) 0 → ((a * 256 + b) * 256 + c) * 256 + d ≡ wordAt w i
 unfolding numberFrom
 word-law w i a b c d h ea eb ec ed = rw (ea, eb, ec, ed, four-bytes w i h) (omega arith)
 
@@ -53,6 +54,7 @@ pub place-fits : (ls : Levels) → Within (levelsBounds ls) → inmost ls .next 
 place-fits ls w h = omega (arith, depth-most ls .0, depth-most ls .1, next-most ls w .0, next-most ls w .1)
 
 -- an entry of three words
-pub entry-law : (w : List ℕ) (i a b c : ℕ) → a ≡ wordAt w i → b ≡ wordAt w (i + 4) → c ≡ wordAt w (i + 8) → _≡_ {A = StoredEntry} (record { inner = leb typeBit a; size = a % typeBit; duration = b; sap = c }) (entryAt w i)
+pub entry-law : (w : List ℕ) (i a b c : ℕ) → a ≡ wordAt w i → b ≡ wordAt w (i + 4) → c ≡ wordAt w (i + 8) →
+    _≡_ {A = StoredEntry} (record { inner = leb typeBit a; size = a % typeBit; duration = b; sap = c }) (entryAt w i)
 unfolding entryAt
 entry-law w i a b c e k l = rw (e, k, l)

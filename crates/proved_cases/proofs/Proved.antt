@@ -26,16 +26,16 @@ looked-up behind =
     record { at-4999 = rw fits; at-5000 = rw fits; at-6999 = rw fits; at-7000 = rw fits; at-9999 = rw fits; at-10000 = rw fits }
 
 -- the records of S's leaves, number by number
-rows-of-s : recordsOf leavesOfS ≡ 76 ∷ 60 ∷ 5000 ∷ 2000 ∷ 2415919104 ∷ 100 ∷ 136 ∷ 60 ∷ 7000 ∷ 3000 ∷ 2415919104 ∷ 2100 ∷ []
+records-of-s : recordsOf leavesOfS ≡ 76 ∷ 60 ∷ 5000 ∷ 2000 ∷ 2415919104 ∷ 100 ∷ 136 ∷ 60 ∷ 7000 ∷ 3000 ∷ 2415919104 ∷ 2100 ∷ []
 unfolding theLookup
-rows-of-s = refl
+records-of-s = refl
 
 -- Lookup in S: 4999 gives 23; 5000 and 6999 leaf 1; 7000 and 9999 leaf 2; 10000 gives 24.
 pub s-lookup : LookupInS
 s-lookup =
     record {
       accepts = s-accepted;
-      records = rows-of-s;
+      records = records-of-s;
       in-left = rw (s-accepted .fed) (looked-up (drop 12 table0));
       in-any = λ behind. rw (s-accepted .fed) (looked-up behind);
     }

@@ -10,7 +10,7 @@ use Rattle.table.specs.declared.Record.{Record}
 use Rattle.table.specs.Table.{recordNumbers, numbersOf, recordAt, putRecord}
 
 -- a record is its numbers
-by-numbers : (table table' : List ℕ) (i j : ℕ) →
+pub by-numbers : (table table' : List ℕ) (i j : ℕ) →
     ((k : ℕ) → k < recordNumbers → getD table (recordNumbers * i + k) 0 ≡ getD table' (recordNumbers * j + k) 0) → recordAt table i ≡ recordAt table' j
 unfolding recordAt
 by-numbers table table' i j same =

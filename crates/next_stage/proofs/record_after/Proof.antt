@@ -39,7 +39,8 @@ returns-2 c =
     let at-record = at-put .before in
     let arm = at-record .before .before .before in
     let a = arm .before .before .before .args in
-    at-put .put-record .ensures ∙ ap (λ (r : Record). putRecord (a .table .now) (a .leaves) r) (at-record .leaf-record .ensures) ∙ sym (ap (λ (q : LeafStep). tableAfter (a .leaves) (a .slot) (a .at) q (a .table .now)) (arm .q .given .1))
+    at-put .put-record .ensures ∙ ap (λ (r : Record). putRecord (a .table .now) (a .leaves) r) (at-record .leaf-record .ensures)
+    ∙ sym (ap (λ (q : LeafStep). tableAfter (a .leaves) (a .slot) (a .at) q (a .table .now)) (arm .q .given .1))
 
 returns-3 : tie.Need-returns-3
 unfolding tableAfter
