@@ -26,7 +26,6 @@ use Rattle.machine.specs.Run.{Res, okay, fail, cut as cutOff, either, after, fi
 use Rattle.machine.specs.Heads.{headD, sizeFaults}
 use Rattle.machine.specs.Lists.{boxD, boxesD}
 use Rattle.machine.specs.declared.Header.{Header}
-use Rattle.machine.proofs.Fields.{skip-whole}
 use Rattle.machine.proofs.Faults.{none-second, shows-none}
 use Rattle.machine.proofs.Readings.{Says, says-okay, says-either, says-box}
 use Rattle.state.specs.declared.Span.{Span}
@@ -43,7 +42,7 @@ use Rattle.descent.specs.Opening.{skipTo}
 use Rattle.descent.specs.Leaf.{tfhdD, widthD, tfdtD, trafBodyD, trafD, moofBodyD, moofD, leafBodyD, leafD}
 use Rattle.demands.specs.Told.{upon, clean, climb, headLength, headerOf}
 use Rattle.demands.specs.Walks.{trafItem, trafWalk, moofItem, moofWalk, leafItem, leafWalk}
-use Rattle.demands.proofs.Upons.{upon-here, Never, Anyhow, each-any, clean-none, upon-after, upon-unless, clean-append, clean-shows}
+use Rattle.demands.proofs.Upons.{upon-here, skip-tree, Never, Anyhow, each-any, clean-none, upon-after, upon-unless, clean-append, clean-shows}
 use Rattle.demands.proofs.HeadTree.{head-tree}
 use Rattle.demands.proofs.ListTree.{list-tree, start-tree}
 use Rattle.demands.proofs.WalkTree.{not-or, body-length, traf-faults, cut-fits, traf-walk, moof-walk, leaf-walk, first-seen}
@@ -52,14 +51,6 @@ use Rattle.demands.proofs.WalkTree.{not-or, body-length, traf-faults, c
 pub field-tree : {R X : Type 0} (k : ℕ → Flow → ℕ → List ℕ → Res R Flow Left) (h : R → Flow → ℕ → List ℕ → Option X) (m : ℕ) (f : Flow) (n : ℕ) (xs ys : List ℕ) → m ≤ length xs →
     upon (fieldD left plain k m 0 f n (xs ++ ys)) h ≡ andThen (field m xs) (λ v. upon (k (v .value) f (n + m) (v .rest ++ ys)) h)
 field-tree k h m f n xs ys l = upon-here k h m f n xs ys l ∙ sym (then-goes (field m xs) _ _ (field-some m xs l))
-
--- Bytes that are skipped.
-pub skip-tree : {R X : Type 0} (r : R) (k : R → Flow → ℕ → List ℕ → Option X) (stop : ℕ) (f : Flow) (n : ℕ) (xs ys : List ℕ) → stop ≡ n + length xs →
-    upon (skipTo r stop f n (xs ++ ys)) k ≡ k r f stop ys
-unfolding upon either
-skip-tree r k stop f n xs ys e =
-    let q : n + (stop - n) ≡ stop = omega arith in
-    rw (skip-whole left (stop - n) f n xs ys (omega arith), q)
 
 -- no bytes
 nil : (xs : List ℕ) → length xs ≡ 0 → xs ≡ []

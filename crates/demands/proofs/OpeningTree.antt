@@ -20,7 +20,7 @@ use Rattle.machine.specs.Run.{Res, okay, either, after}
 use Rattle.machine.specs.Heads.{boxEnd}
 use Rattle.machine.specs.Lists.{boxD, goOnD, boxesD}
 use Rattle.machine.specs.declared.Header.{Header}
-use Rattle.machine.proofs.Fields.{skip-whole, skip-short}
+use Rattle.machine.proofs.Fields.{skip-short}
 use Rattle.state.specs.declared.Span.{Span}
 use Rattle.state.specs.declared.Index.{Index}
 use Rattle.state.specs.Flow.{Flow, Left, left}
@@ -30,7 +30,7 @@ use Rattle.state.specs.Opening.{Opened, passed, indexed, spanOf, openingBox, cl
 use Rattle.descent.specs.Sidx.{sidxD}
 use Rattle.descent.specs.Opening.{skipTo, stypD, openingBodyD, openingD}
 use Rattle.demands.specs.Told.{upon, clean, headLength, headerOf, indexFrom, withEntries}
-use Rattle.demands.proofs.Upons.{upon-either, upon-after, clean-shows}
+use Rattle.demands.proofs.Upons.{skip-tree, upon-either, upon-after, clean-shows}
 use Rattle.demands.proofs.HeadTree.{box-open}
 use Rattle.demands.proofs.SidxTree.{sidx-fitting, sidx-cut, sidx-facts, suits-topmost}
 use Rattle.demands.proofs.Shown.{kindOf, first-shown, later-shown}
@@ -75,12 +75,7 @@ top-fitting f k span n xs ys e =
 -- a body that is skipped
 pub skip-body : {R X : Type 0} (r : R) (f : Flow) (b : Box) (pos : ℕ) (zs : List ℕ) (k : R → Flow → ℕ → List ℕ → Option X) → headLength b + length (b .body) ≡ b .size →
     upon (skipTo r (boxEnd (headerOf pos b)) f (pos + headLength b) (b .body ++ zs)) k ≡ k r f (pos + b .size) zs
-unfolding upon either
-skip-body r f b pos zs k e =
-    let q : pos + headLength b + (boxEnd (headerOf pos b) - (pos + headLength b)) ≡ pos + b .size = omega arith in
-    ap (λ (x : Res (Unit {0}) Flow Left). upon (after x (λ u g m cs. okay r g m cs)) k)
-    (skip-whole left (boxEnd (headerOf pos b) - (pos + headLength b)) f (pos + headLength b) (b .body) zs (omega arith))
-    ∙ ap (λ m. k r f m zs) q
+skip-body r f b pos zs k e = skip-tree r k (pos + b .size) f (pos + headLength b) (b .body) zs (omega arith)
 
 module _ {X : Type 0} (brand : ℕ) (f : Flow) where
   -- a body that is cut off is not accepted

@@ -25,7 +25,7 @@ use Rattle.state.specs.declared.Sidx.{Sidx}
 use Rattle.state.specs.declared.Sidx.the-variants as sidx
 use Rattle.state.specs.Flow.{Flow, Left, left}
 use Rattle.state.specs.Sidx.{sidxVersionFaults, idFaults, scaleFaults, timeFaults, offsetFaults, countFaults, sumFaults, entrySizeFaults}
-use Rattle.state.specs.Sidx.{Place, draft0, sidxStart, wideMore, indexOf, closeSidx, fieldEnds, plusSize, plusDuration, nextEntry, entryEnds, keepByte, stepSidx}
+use Rattle.state.specs.Sidx.{Place, draft0, sidxStart, indexOf, closeSidx, fieldEnds, plusSize, plusDuration, nextEntry, entryEnds, keepByte, stepSidx}
 use Rattle.descent.specs.Sidx.{closeD, entryD, entriesD, countedD, countD, reservedD, offsetD, timeD, scaleD, idD, flagsD, versionD, sidxD}
 
 module _ (p : Place) (span : Span) where
@@ -93,45 +93,15 @@ module _ (p : Place) (span : Span) where
       unless-with (λ r. r) (X n bs) _ _ _ _ (countFaults span v n) (λ x. refl)
       (λ e. counted d v f n bs (count-some v n e))
 
-  reserved-run : (d : Draft) (v : ℕ) (f : Flow) (n : ℕ) (bs : List ℕ) → reservedD p span d v f n bs ≡ X n bs (fieldEnds p span part.Reserved d v f n)
-  unfolding reservedD fieldEnds
-  reserved-run d v f n bs = field part.Count d (countD p span d) (count-run d) 1 f n bs
-
-  offset-run : (d : Draft) (v : ℕ) (f : Flow) (n : ℕ) (bs : List ℕ) → offsetD p span d v f n bs ≡ X n bs (fieldEnds p span part.Offset d v f n)
-  unfolding offsetD fieldEnds contBy
-  offset-run d v f n bs =
-      unless-both (λ r. r) (X n bs) _ _ _ _ (offsetFaults p span v) (λ x. refl)
-      (let d' : Draft = record { wide = d .wide; id = d .id; scale = d .scale; time = d .time; offset = v } in field part.Reserved d' (reservedD p span d') (reserved-run d') 1 f n bs)
-
-  time-run : (d : Draft) (v : ℕ) (f : Flow) (n : ℕ) (bs : List ℕ) → timeD p span d v f n bs ≡ X n bs (fieldEnds p span part.Time d v f n)
-  unfolding timeD fieldEnds contBy
-  time-run d v f n bs =
-      unless-both (λ r. r) (X n bs) _ _ _ _ (timeFaults p span (f .now) v) (λ x. refl)
-      (let d' : Draft = record { wide = d .wide; id = d .id; scale = d .scale; time = v; offset = 0 } in field part.Offset d' (offsetD p span d') (offset-run d') (wideMore (d .wide)) f n bs)
-
-  scale-run : (d : Draft) (v : ℕ) (f : Flow) (n : ℕ) (bs : List ℕ) → scaleD p span d v f n bs ≡ X n bs (fieldEnds p span part.Scale d v f n)
-  unfolding scaleD fieldEnds contBy
-  scale-run d v f n bs =
-      unless-both (λ r. r) (X n bs) _ _ _ _ (scaleFaults p span v) (λ x. refl)
-      (let d' : Draft = record { wide = d .wide; id = d .id; scale = v; time = 0; offset = 0 } in field part.Time d' (timeD p span d') (time-run d') (wideMore (d .wide)) f n bs)
-
-  id-run : (d : Draft) (v : ℕ) (f : Flow) (n : ℕ) (bs : List ℕ) → idD p span d v f n bs ≡ X n bs (fieldEnds p span part.Id d v f n)
-  unfolding idD fieldEnds contBy
-  id-run d v f n bs =
-      unless-both (λ r. r) (X n bs) _ _ _ _ (idFaults p span v) (λ x. refl)
-      (let d' : Draft = record { wide = d .wide; id = v; scale = 0; time = 0; offset = 0 } in field part.Scale d' (scaleD p span d') (scale-run d') 3 f n bs)
-
-  flags-run : (d : Draft) (v : ℕ) (f : Flow) (n : ℕ) (bs : List ℕ) → flagsD p span d v f n bs ≡ X n bs (fieldEnds p span part.Flags d v f n)
-  unfolding flagsD fieldEnds
-  flags-run d v f n bs = field part.Id d (idD p span d) (id-run d) 3 f n bs
-
-  version-run : (d : Draft) (v : ℕ) (f : Flow) (n : ℕ) (bs : List ℕ) → versionD p span v f n bs ≡ X n bs (fieldEnds p span part.Version d v f n)
-  unfolding versionD fieldEnds contBy
-  version-run d v f n bs =
-      unless-both (λ r. r) (X n bs) _ _ _ _ (sidxVersionFaults span v n) (λ x. refl)
-      (let d' : Draft = record { wide = eqb v 1; id = 0; scale = 0; time = 0; offset = 0 } in field part.Flags d' (flagsD p span d') (flags-run d') 2 f n bs)
-
-  -- the body of an index
+  -- the body of an index, number after number
   pub sidx-run : (f : Flow) (n : ℕ) (bs : List ℕ) → sidxD p span f n bs ≡ X n bs (go sidxStart f)
-  unfolding sidxD
-  sidx-run f n bs = field part.Version draft0 (versionD p span) (version-run draft0) 0 f n bs
+  unfolding sidxD versionD flagsD idD scaleD timeD offsetD reservedD fieldEnds contBy
+  sidx-run f n bs =
+      field part.Version draft0 _ (λ version f n bs. unless-both (λ r. r) (X n bs) _ _ _ _ (sidxVersionFaults span version n) (λ x. refl)
+      (field part.Flags _ _ (λ flags f n bs.
+      field part.Id _ _ (λ id f n bs. unless-both (λ r. r) (X n bs) _ _ _ _ (idFaults p span id) (λ x. refl)
+      (field part.Scale _ _ (λ scale f n bs. unless-both (λ r. r) (X n bs) _ _ _ _ (scaleFaults p span scale) (λ x. refl)
+      (field part.Time _ _ (λ time f n bs. unless-both (λ r. r) (X n bs) _ _ _ _ (timeFaults p span (f .now) time) (λ x. refl)
+      (field part.Offset _ _ (λ offset f n bs. unless-both (λ r. r) (X n bs) _ _ _ _ (offsetFaults p span offset) (λ x. refl)
+      (field part.Reserved _ _ (λ reserved f n bs.
+      field part.Count _ _ (count-run _) 1 f n bs) 1 f n bs)) _ f n bs)) _ f n bs)) 3 f n bs)) 3 f n bs) 2 f n bs)) 0 f n bs

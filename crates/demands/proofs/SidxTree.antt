@@ -699,37 +699,17 @@ module _ (p : Place) (span : Span) (all : ℕ) where
   unfolding countD
   count-told d v f n bs q = faults-told (countFaults span v n) _ n _ (λ z. let (e, c) = count-left span v n z in counted-told d v f n bs q e c)
 
-  reserved-told : (d : Draft) → Reads (reservedD p span d)
-  unfolding reservedD
-  reserved-told d v f n bs q = number-told (countD p span d) (count-told d) 2 0 f n bs q
-
-  offset-told : (d : Draft) → Reads (offsetD p span d)
-  unfolding offsetD
-  offset-told d v f n bs q = faults-told (offsetFaults p span v) _ n _ (λ z. number-told _ (reserved-told _) 2 0 f n bs q)
-
-  time-told : (d : Draft) → Reads (timeD p span d)
-  unfolding timeD
-  time-told d v f n bs q = faults-told (timeFaults p span (f .now) v) _ n _ (λ z. number-told _ (offset-told _) _ 0 f n bs q)
-
-  scale-told : (d : Draft) → Reads (scaleD p span d)
-  unfolding scaleD
-  scale-told d v f n bs q = faults-told (scaleFaults p span v) _ n _ (λ z. number-told _ (time-told _) _ 0 f n bs q)
-
-  id-told : (d : Draft) → Reads (idD p span d)
-  unfolding idD
-  id-told d v f n bs q = faults-told (idFaults p span v) _ n _ (λ z. number-told _ (scale-told _) 4 0 f n bs q)
-
-  flags-told : (d : Draft) → Reads (flagsD p span d)
-  unfolding flagsD
-  flags-told d v f n bs q = number-told _ (id-told d) 4 0 f n bs q
-
-  version-told : Reads (versionD p span)
-  unfolding versionD
-  version-told v f n bs q = faults-told (sidxVersionFaults span v n) _ n _ (λ z. number-told _ (flags-told _) 3 0 f n bs q)
-
   sidx-told : (f : Flow) (n : ℕ) (bs : List ℕ) → n + length bs ≡ all → Told (sidxD p span f n bs)
-  unfolding sidxD
-  sidx-told f n bs q = number-told _ version-told 1 0 f n bs q
+  unfolding sidxD versionD flagsD idD scaleD timeD offsetD reservedD
+  sidx-told f n bs q =
+      number-told _ (λ version f n bs q. faults-told _ _ n _ (λ z.
+      number-told _ (λ flags f n bs q.
+      number-told _ (λ id f n bs q. faults-told _ _ n _ (λ z.
+      number-told _ (λ scale f n bs q. faults-told _ _ n _ (λ z.
+      number-told _ (λ time f n bs q. faults-told _ _ n _ (λ z.
+      number-told _ (λ offset f n bs q. faults-told _ _ n _ (λ z.
+      number-told _ (λ reserved f n bs q.
+      number-told _ (count-told _) 2 0 f n bs q) 2 0 f n bs q)) _ 0 f n bs q)) _ 0 f n bs q)) 4 0 f n bs q)) 4 0 f n bs q) 3 0 f n bs q)) 1 0 f n bs q
 
 -- an accepted index ends where its box does, and what was read and what is left are all
 pub sidx-ends : (p : Place) (span : Span) (f : Flow) (n : ℕ) (bs : List ℕ) (x : Index) (g : Flow) (m : ℕ) (cs : List ℕ) → sidxD p span f n bs ≡ okay x g m cs →

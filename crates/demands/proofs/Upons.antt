@@ -1,5 +1,5 @@
 -- Laws of what is made of an accepted reading.
-use Prim.Native.Nat.{ℕ, _+_, _≤_, _<_}
+use Prim.Native.Nat.{ℕ, _+_, _-_, _≤_, _<_}
 use mathlib.Core.Path.{_≡_, refl, ap, _∙_}
 use mathlib.Core.List.{List, [], _∷_, _++_}
 use mathlib.Core.Option.{Option, some, none}
@@ -13,8 +13,9 @@ use Rattle.basics.proofs.Options.{absurd-some}
 use Rattle.machine.specs.Faults.{shows, unless}
 use Rattle.machine.specs.Run.{Res, okay, fail, cut, either, after, fieldD, plain}
 use Rattle.machine.specs.declared.Refusal.{Refusal}
-use Rattle.machine.proofs.Fields.{field-take, field-short}
+use Rattle.machine.proofs.Fields.{field-take, field-short, skip-whole}
 use Rattle.state.specs.Flow.{Flow, Left, left}
+use Rattle.descent.specs.Opening.{skipTo}
 use Rattle.demands.specs.Told.{upon, clean}
 use Rattle.machine.proofs.Kept.{Each}
 use Rattle.machine.proofs.Readings.{Says}
@@ -97,6 +98,14 @@ upon-here k h m f n zs ys l =
     let t = take-append-le m zs ys l in
     let d = drop-append-le m zs ys l in
     upon-field k h m f n (zs ++ ys) (omega (arith, length-append zs ys)) ∙ rw (t, d)
+
+-- Bytes that are skipped.
+pub skip-tree : {R X : Type 0} (r : R) (k : R → Flow → ℕ → List ℕ → Option X) (stop : ℕ) (f : Flow) (n : ℕ) (xs ys : List ℕ) → stop ≡ n + length xs →
+    upon (skipTo r stop f n (xs ++ ys)) k ≡ k r f stop ys
+unfolding upon either
+skip-tree r k stop f n xs ys e =
+    let q : n + (stop - n) ≡ stop = omega arith in
+    rw (skip-whole left (stop - n) f n xs ys (omega arith), q)
 
 -- Nothing is known of a result, or of a refusal; and a result that there is not.
 abbrev pub Any : {R : Type 0} → R → Flow → ℕ → List ℕ → Type 0
