@@ -8,12 +8,6 @@ use borrow.Author.Needs.{needs}
 use Rattle.byte.proofs.byte_after.Statement.{statement}
 use Rattle.byte.proofs.byte_after.Tie as tie
 
-over-limit-requires : tie.Need-over-limit-requires
-over-limit-requires c κs = search needs
-
-past-limit-requires : tie.Need-past-limit-requires
-past-limit-requires c κs = search needs
-
 returns : tie.Need-returns
 returns c =
     let at-over-limit = c .before in
@@ -22,14 +16,10 @@ returns c =
     λ work table. ap (λ (q : State). left-with q work table) (c .past-limit .ensures ∙ ap (state.Refused 268435457 (a .leaves)) (at-over-limit .over-limit .ensures))
     ∙ ended-past (a .n) (a .leaves) (a .b) (a .top) work table (test .if1 .taken)
 
-add-t7 : tie.Need-add-t7
-add-t7 c = search needs
-
 returns-2 : tie.Need-returns-2
 returns-2 c =
     let a = c .before .args in
     λ work table. ended-one (a .n) (a .leaves) (a .b) (a .top) work table (omega (arith, c .if1 .left, c .before .pre))
 
 pub byte-after-spec : {M : Type 1} → statement M
-byte-after-spec =
-    tie.close (tie.spec over-limit-requires past-limit-requires returns add-t7 returns-2)
+byte-after-spec = tie.close (tie.spec (search needs) (search needs) returns (search needs) returns-2)

@@ -5,18 +5,6 @@ use borrow.Author.Needs.{needs}
 use Rattle.byte.proofs.limit_byte.Statement.{statement}
 use Rattle.byte.proofs.limit_byte.Tie as tie
 
-limit-row-requires : tie.Need-limit-row-requires
-limit-row-requires c κs = search needs
-
-store-byte-requires : tie.Need-store-byte-requires
-store-byte-requires c κs = search needs
-
-past-limit-requires : tie.Need-past-limit-requires
-past-limit-requires c κs = search needs
-
-same-length : tie.Need-same-length
-same-length c = search needs
-
 returns : tie.Need-returns
 returns c =
     let stepped = c .before .before .before in
@@ -28,6 +16,4 @@ returns c =
     (c .past-limit .ensures)
 
 pub limit-byte-spec : {M : Type 1} → statement M
-limit-byte-spec =
-    tie.close
-    (tie.spec limit-row-requires store-byte-requires past-limit-requires same-length returns)
+limit-byte-spec = tie.close (tie.spec (λ c κs. search needs) (λ c κs. search needs) (search needs) (search needs) returns)

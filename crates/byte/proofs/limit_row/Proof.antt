@@ -8,12 +8,6 @@ use borrow.Author.Needs.{needs}
 use Rattle.byte.proofs.limit_row.Statement.{statement}
 use Rattle.byte.proofs.limit_row.Tie as tie
 
-over-limit-requires : tie.Need-over-limit-requires
-over-limit-requires c κs = search needs
-
-enum-known-s : tie.Need-enum-known-s
-enum-known-s c = search needs
-
 returns : tie.Need-returns
 returns c =
     let a = c .before .before .before .args in
@@ -25,12 +19,6 @@ read-back-requires c κs =
     let d = arm .before .before .before .before in
     let inside = entry-inside (d .args .s) _ _ (d .args .at) (arm .s .given .1) (d .pre .1) in
     (d .pre .0, inside .0, inside .1)
-
-enum-told : tie.Need-enum-told
-enum-told c = search needs
-
-enum-told-2 : tie.Need-enum-told-2
-enum-told-2 c = search needs
 
 returns-2 : tie.Need-returns-2
 returns-2 c =
@@ -54,12 +42,5 @@ returns-3 c =
 pub limit-row-spec : {M : Type 1} → statement M
 limit-row-spec =
     tie.close
-    (tie.spec
-    over-limit-requires
-    enum-known-s
-    returns
-    read-back-requires
-    enum-told
-    enum-told-2
-    returns-2
+    (tie.spec (search needs) (search needs) returns read-back-requires (search needs) (search needs) returns-2
     returns-3)

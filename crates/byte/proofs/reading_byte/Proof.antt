@@ -11,9 +11,6 @@ limit-byte-requires c κs =
     let a = d .args in
     (d .pre .0, reading-stage (a .n) (a .r .leaves) (a .r .now) (a .r .last) (a .s) (d .pre .1))
 
-same-length : tie.Need-same-length
-same-length c = search needs
-
 returns : tie.Need-returns
 returns c =
     let stepped = c .before .before in
@@ -41,12 +38,6 @@ state-after-requires c κs =
     let a = d .args in
     reading-count (a .n) (a .r .leaves) (a .r .now) (a .r .last) (a .s) (d .pre .1)
 
-same-length-2 : tie.Need-same-length-2
-same-length-2 c = search needs
-
-same-length-3 : tie.Need-same-length-3
-same-length-3 c = search needs
-
 returns-2 : tie.Need-returns-2
 returns-2 c =
     let stepped = c .before .before .before .before .before in
@@ -61,12 +52,5 @@ returns-2 c =
 pub reading-byte-spec : {M : Type 1} → statement M
 reading-byte-spec =
     tie.close
-    (tie.spec
-    limit-byte-requires
-    same-length
-    returns
-    stage-byte-requires
-    state-after-requires
-    same-length-2
-    same-length-3
-    returns-2)
+    (tie.spec limit-byte-requires (search needs) returns stage-byte-requires state-after-requires (search needs)
+    (search needs) returns-2)

@@ -6,18 +6,6 @@ use borrow.Author.Needs.{needs}
 use Rattle.byte.proofs.state_after.Statement.{statement}
 use Rattle.byte.proofs.state_after.Tie as tie
 
-add-count : tie.Need-add-count
-add-count c = search needs
-
-enum-known-q : tie.Need-enum-known-q
-enum-known-q c = search needs
-
-enum-known-q-2 : tie.Need-enum-known-q-2
-enum-known-q-2 c = search needs
-
-enum-known-q-3 : tie.Need-enum-known-q-3
-enum-known-q-3 c = search needs
-
 returns : tie.Need-returns
 unfolding stepped
 returns c =
@@ -42,4 +30,4 @@ returns-3 c =
 pub state-after-spec : {M : Type 1} → statement M
 state-after-spec =
     tie.close
-    (tie.spec add-count enum-known-q enum-known-q-2 enum-known-q-3 returns returns-2 returns-3)
+    (tie.spec (search needs) (search needs) (search needs) (search needs) returns returns-2 returns-3)

@@ -8,35 +8,17 @@ use borrow.Author.Needs.{needs}
 use Rattle.byte.proofs.state_byte.Statement.{statement}
 use Rattle.byte.proofs.state_byte.Tie as tie
 
-enum-known-s : tie.Need-enum-known-s
-enum-known-s c = search needs
-
 reading-byte-requires : tie.Need-reading-byte-requires
 reading-byte-requires c κs =
     let arm = c .before .before .before in
     let asked = arm .before .before .before .before .pre in
     (asked .0, subst InRange (arm .s .given .1) (asked .1))
 
-enum-known-s-2 : tie.Need-enum-known-s-2
-enum-known-s-2 c = search needs
-
 byte-after-requires : tie.Need-byte-after-requires
 byte-after-requires c κs =
     let arm = c .before in
     let asked = arm .before .before .before .before .pre in
     ended-count (arm .s2 .given .0 .0) (arm .s2 .given .0 .1 .0) (arm .s2 .given .0 .1 .1 .0) (subst InRange (arm .s2 .given .1) (asked .1))
-
-enum-told : tie.Need-enum-told
-enum-told c = search needs
-
-enum-told-2 : tie.Need-enum-told-2
-enum-told-2 c = search needs
-
-same-length : tie.Need-same-length
-same-length c = search needs
-
-same-length-2 : tie.Need-same-length-2
-same-length-2 c = search needs
 
 returns : tie.Need-returns
 returns c =
@@ -68,16 +50,5 @@ returns-4 c =
 pub state-byte-spec : {M : Type 1} → statement M
 state-byte-spec =
     tie.close
-    (tie.spec
-    enum-known-s
-    reading-byte-requires
-    enum-known-s-2
-    byte-after-requires
-    enum-told
-    enum-told-2
-    same-length
-    same-length-2
-    returns
-    returns-2
-    returns-3
-    returns-4)
+    (tie.spec (search needs) reading-byte-requires (search needs) byte-after-requires (search needs) (search needs)
+    (search needs) (search needs) returns returns-2 returns-3 returns-4)

@@ -6,9 +6,6 @@ use borrow.Author.Tests.{not-true, not-false}
 use Rattle.byte.proofs.store_byte.Statement.{statement}
 use Rattle.byte.proofs.store_byte.Tie as tie
 
-stage-number-requires : tie.Need-stage-number-requires
-stage-number-requires c κs = search needs
-
 returns : tie.Need-returns
 returns c =
     let at-stage-number = c .before .before in
@@ -23,9 +20,6 @@ slice-write-work c =
     let x = at-stage-number .stage-number in
     omega (arith, d .pre .0, byte-fits (d .args .s) (x .result) (x .ensures) (d .args .at) (not-false (x .result .stored) (c .if1 .left)) (d .pre .1))
 
-same-length : tie.Need-same-length
-same-length c = search needs
-
 returns-2 : tie.Need-returns-2
 returns-2 c =
     let at-stage-number = c .before .before in
@@ -34,5 +28,4 @@ returns-2 c =
     byte-stored (a .s) (x .result) (x .ensures) (a .b) (a .work .now) (not-false (x .result .stored) (c .if1 .left))
 
 pub store-byte-spec : {M : Type 1} → statement M
-store-byte-spec =
-    tie.close (tie.spec stage-number-requires returns slice-write-work same-length returns-2)
+store-byte-spec = tie.close (tie.spec (λ c κs. search needs) returns slice-write-work (search needs) returns-2)

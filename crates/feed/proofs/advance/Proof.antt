@@ -6,24 +6,12 @@ use borrow.Author.Needs.{needs}
 use Rattle.feed.proofs.advance.Statement.{statement}
 use Rattle.feed.proofs.advance.Tie as tie
 
-sub-passing-now : tie.Need-sub-passing-now
-sub-passing-now c = search needs
-
-passing-now-requires : tie.Need-passing-now-requires
-passing-now-requires c κs = search needs
-
-spell-on-requires : tie.Need-spell-on-requires
-spell-on-requires c κs = search needs
-
 shared-slice-read-state-byte : tie.Need-shared-slice-read-state-byte
 shared-slice-read-state-byte c =
     let at-spell-on = c .before .before .before in
     let start = at-spell-on .before .before .before .before .before .before .before in
     let a = start .args in
     spelled-there (a .piece .now) (a .s) (a .i) (a .work .now) _ _ _ (start .pre .2) (at-spell-on .spell-on .ensures .0) .1
-
-state-byte-requires : tie.Need-state-byte-requires
-state-byte-requires c κs = search needs
 
 add-t23 : tie.Need-add-t23
 add-t23 c =
@@ -32,12 +20,6 @@ add-t23 c =
     let start = at-spell-on .before .before .before .before .before .before .before in
     let a = start .args in
     omega (arith, spelled-there (a .piece .now) (a .s) (a .i) (a .work .now) _ _ _ (start .pre .2) (at-spell-on .spell-on .ensures .0) .1)
-
-same-length : tie.Need-same-length
-same-length c = search needs
-
-same-length-2 : tie.Need-same-length-2
-same-length-2 c = search needs
 
 returns : tie.Need-returns
 returns c =
@@ -74,16 +56,5 @@ returns-2 c =
 pub advance-spec : {M : Type 1} → statement M
 advance-spec =
     tie.close
-    (tie.spec
-    sub-passing-now
-    passing-now-requires
-    spell-on-requires
-    shared-slice-read-state-byte
-    state-byte-requires
-    add-t23
-    same-length
-    same-length-2
-    returns
-    pass-requires
-    add-t12
-    returns-2)
+    (tie.spec (search needs) (search needs) (λ c κs. search needs) shared-slice-read-state-byte (λ c κs. search needs) add-t23
+    (search needs) (search needs) returns pass-requires add-t12 returns-2)

@@ -5,18 +5,6 @@ use borrow.Author.Needs.{needs}
 use Rattle.feed.proofs.answer_for.Statement.{statement}
 use Rattle.feed.proofs.answer_for.Tie as tie
 
-enum-known-s : tie.Need-enum-known-s
-enum-known-s c = search needs
-
-enum-known-s-2 : tie.Need-enum-known-s-2
-enum-known-s-2 c = search needs
-
-enum-known-s-3 : tie.Need-enum-known-s-3
-enum-known-s-3 c = search needs
-
-enum-told : tie.Need-enum-told
-enum-told c = search needs
-
 returns : tie.Need-returns
 unfolding answered
 returns c = sym (ap answered (c .before .s .given .1))
@@ -36,12 +24,4 @@ returns-4 c = sym (ap answered (c .enum-told .given .1))
 pub answer-for-spec : {M : Type 1} → statement M
 answer-for-spec =
     tie.close
-    (tie.spec
-    enum-known-s
-    enum-known-s-2
-    enum-known-s-3
-    enum-told
-    returns
-    returns-2
-    returns-3
-    returns-4)
+    (tie.spec (search needs) (search needs) (search needs) (search needs) returns returns-2 returns-3 returns-4)

@@ -8,9 +8,6 @@ use borrow.Author.Needs.{needs}
 use Rattle.feed.proofs.feed.Statement.{statement}
 use Rattle.feed.proofs.feed.Tie as tie
 
-turned-away-requires : tie.Need-turned-away-requires
-turned-away-requires c κs = search needs
-
 -- the work area is short
 returns : tie.Need-returns
 returns c =
@@ -21,24 +18,12 @@ returns c =
       each-byte-all (a .piece .now) (λ i. known .shared-slice-known .given i .fits),
     )
 
-in-range-requires : tie.Need-in-range-requires
-in-range-requires c κs = search needs
-
 feed-bytes-requires : tie.Need-feed-bytes-requires
 feed-bytes-requires c κs =
     let range = c .before .before in
     let area = range .before .before in
     let a = area .before .before .before .before .args in
     (area .if1 .left, within-range (a .s) .0 (sym (range .before .in-range .ensures) ∙ range .if2 .taken))
-
-answer-for-requires : tie.Need-answer-for-requires
-answer-for-requires c κs = search needs
-
-same-length : tie.Need-same-length
-same-length c = search needs
-
-same-length-2 : tie.Need-same-length-2
-same-length-2 c = search needs
 
 -- the bytes are read
 returns-2 : tie.Need-returns-2
@@ -52,9 +37,6 @@ returns-2 c =
           (c .answer-for .ensures) (read .feed-bytes .ensures),
       each-byte-all (a .piece .now) (λ i. known .shared-slice-known .given i .fits),
     )
-
-turned-away-requires-2 : tie.Need-turned-away-requires-2
-turned-away-requires-2 c κs = search needs
 
 -- the state is out of its ranges
 returns-3 : tie.Need-returns-3
@@ -71,14 +53,5 @@ returns-3 c =
 pub feed-spec : {M : Type 1} → statement M
 feed-spec =
     tie.close
-    (tie.spec
-    turned-away-requires
-    returns
-    in-range-requires
-    feed-bytes-requires
-    answer-for-requires
-    same-length
-    same-length-2
-    returns-2
-    turned-away-requires-2
-    returns-3)
+    (tie.spec (search needs) returns (search needs) feed-bytes-requires (search needs) (search needs) (search needs)
+    returns-2 (search needs) returns-3)

@@ -6,9 +6,6 @@ use borrow.Author.Needs.{needs}
 use Rattle.header.proofs.first_byte.Statement.{statement}
 use Rattle.header.proofs.first_byte.Tie as tie
 
-add-if1 : tie.Need-add-if1
-add-if1 c = search needs
-
 returns : tie.Need-returns
 unfolding stepHead unless shows lowest
 returns c = λ f. simp (lt-ltb _ _ (c .if1 .taken))
@@ -18,4 +15,4 @@ unfolding stepHead unless shows lowest
 returns-2 c = λ f. simp (le-ltb _ _ (c .if1 .left))
 
 pub first-byte-spec : {M : Type 1} → statement M
-first-byte-spec = tie.close (tie.spec add-if1 returns returns-2)
+first-byte-spec = tie.close (tie.spec (search needs) returns returns-2)

@@ -9,30 +9,15 @@ use borrow.Author.Needs.{needs}
 use Rattle.header.proofs.head_byte.Statement.{statement}
 use Rattle.header.proofs.head_byte.Tie as tie
 
-enum-told : tie.Need-enum-told
-enum-told c = search needs
-
-first-byte-requires : tie.Need-first-byte-requires
-first-byte-requires c κs = search needs
-
-enum-known-h : tie.Need-enum-known-h
-enum-known-h c = search needs
-
 size-byte-requires : tie.Need-size-byte-requires
 unfolding headBounds
 size-byte-requires c κs = let w = subst (λ (q : Head). Within (headBounds q)) (c .before .h .given .1) (c .before .before .before .pre .0) in
     spelled-small 3 _ _ (omega arith) (w .1)
 
-enum-known-h-2 : tie.Need-enum-known-h-2
-enum-known-h-2 c = search needs
-
 kind-byte-requires : tie.Need-kind-byte-requires
 unfolding headBounds
 kind-byte-requires c κs = let w = subst (λ (q : Head). Within (headBounds q)) (c .before .h2 .given .1) (c .before .before .before .pre .0) in
     (w .0, spelled-small 3 _ _ (omega arith) (w .1))
-
-enum-known-h-3 : tie.Need-enum-known-h-3
-enum-known-h-3 c = search needs
 
 large-byte-requires : tie.Need-large-byte-requires
 unfolding headBounds
@@ -54,16 +39,5 @@ returns-4 c = λ f. rw (c .before .before .h3 .given .1) (c .large-byte .ensures
 pub head-byte-spec : {M : Type 1} → statement M
 head-byte-spec =
     tie.close
-    (tie.spec
-    enum-told
-    first-byte-requires
-    enum-known-h
-    size-byte-requires
-    enum-known-h-2
-    kind-byte-requires
-    enum-known-h-3
-    large-byte-requires
-    returns
-    returns-2
-    returns-3
-    returns-4)
+    (tie.spec (search needs) (search needs) (search needs) size-byte-requires (search needs) kind-byte-requires
+    (search needs) large-byte-requires returns returns-2 returns-3 returns-4)

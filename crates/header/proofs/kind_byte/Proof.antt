@@ -5,20 +5,11 @@ use borrow.Author.Needs.{needs}
 use Rattle.header.proofs.kind_byte.Statement.{statement}
 use Rattle.header.proofs.kind_byte.Tie as tie
 
-spelled-requires : tie.Need-spelled-requires
-spelled-requires c κs = search needs
-
-sized-by-requires : tie.Need-sized-by-requires
-sized-by-requires c κs = search needs
-
 returns : tie.Need-returns
 returns c = λ f. c .sized-by .ensures f ∙ rw (c .before .before .spelled .ensures) (sym (kind-last _ f _ _ _ _ _ _ (c .before .if1 .taken)))
-
-sub-t10 : tie.Need-sub-t10
-sub-t10 c = search needs
 
 returns-2 : tie.Need-returns-2
 returns-2 c = λ f. rw (c .before .spelled .ensures) (sym (kind-more _ f _ _ _ _ _ _ (c .if1 .left)))
 
 pub kind-byte-spec : {M : Type 1} → statement M
-kind-byte-spec = tie.close (tie.spec spelled-requires sized-by-requires returns sub-t10 returns-2)
+kind-byte-spec = tie.close (tie.spec (search needs) (search needs) returns (search needs) returns-2)

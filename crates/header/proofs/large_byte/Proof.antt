@@ -5,17 +5,11 @@ use borrow.Author.Needs.{needs}
 use Rattle.header.proofs.large_byte.Statement.{statement}
 use Rattle.header.proofs.large_byte.Tie as tie
 
-spelled-requires : tie.Need-spelled-requires
-spelled-requires c κs = search needs
-
 returns : tie.Need-returns
 returns c = λ f. rw (c .before .spelled .ensures) (sym (large-last _ f _ _ _ _ _ _ (c .if1 .taken)))
-
-sub-t12 : tie.Need-sub-t12
-sub-t12 c = search needs
 
 returns-2 : tie.Need-returns-2
 returns-2 c = λ f. rw (c .before .spelled .ensures) (sym (large-more _ f _ _ _ _ _ _ (c .if1 .left)))
 
 pub large-byte-spec : {M : Type 1} → statement M
-large-byte-spec = tie.close (tie.spec spelled-requires returns sub-t12 returns-2)
+large-byte-spec = tie.close (tie.spec (search needs) returns (search needs) returns-2)

@@ -7,9 +7,6 @@ use borrow.Author.Needs.{needs}
 use Rattle.header.proofs.length_flaw.Statement.{statement}
 use Rattle.header.proofs.length_flaw.Tie as tie
 
-body-length-requires : tie.Need-body-length-requires
-body-length-requires c κs = search needs
-
 returns : tie.Need-returns
 returns c =
     let test = c .before in
@@ -56,6 +53,4 @@ returns-6 c =
     sym (any-length (a .h) (test .if1 .left) (c .if4 .left))
 
 pub length-flaw-spec : {M : Type 1} → statement M
-length-flaw-spec =
-    tie.close
-    (tie.spec body-length-requires returns returns-2 returns-3 returns-4 returns-5 returns-6)
+length-flaw-spec = tie.close (tie.spec (search needs) returns returns-2 returns-3 returns-4 returns-5 returns-6)

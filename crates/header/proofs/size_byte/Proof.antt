@@ -5,17 +5,11 @@ use borrow.Author.Needs.{needs}
 use Rattle.header.proofs.size_byte.Statement.{statement}
 use Rattle.header.proofs.size_byte.Tie as tie
 
-spelled-requires : tie.Need-spelled-requires
-spelled-requires c κs = search needs
-
 returns : tie.Need-returns
 returns c = λ f. rw (c .before .spelled .ensures) (sym (size-last _ f _ _ _ _ _ (c .if1 .taken)))
-
-sub-t11 : tie.Need-sub-t11
-sub-t11 c = search needs
 
 returns-2 : tie.Need-returns-2
 returns-2 c = λ f. rw (c .before .spelled .ensures) (sym (size-more _ f _ _ _ _ _ (c .if1 .left)))
 
 pub size-byte-spec : {M : Type 1} → statement M
-size-byte-spec = tie.close (tie.spec spelled-requires returns sub-t11 returns-2)
+size-byte-spec = tie.close (tie.spec (search needs) returns (search needs) returns-2)

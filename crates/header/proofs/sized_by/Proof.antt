@@ -11,9 +11,6 @@ returns : tie.Need-returns
 unfolding sized pick
 returns c = λ f. simp (ne-eqb _ _ (c .if1 .taken))
 
-add-if2 : tie.Need-add-if2
-add-if2 c = search needs
-
 returns-2 : tie.Need-returns-2
 unfolding sized pick unless shows lowest
 returns-2 c = λ f. simp (eq-eqb _ _ (c .before .if1 .left), lt-ltb _ _ (c .if2 .taken))
@@ -23,4 +20,4 @@ unfolding sized pick unless shows lowest
 returns-3 c = λ f. simp (eq-eqb _ _ (c .before .if1 .left), le-ltb _ _ (c .if2 .left))
 
 pub sized-by-spec : {M : Type 1} → statement M
-sized-by-spec = tie.close (tie.spec returns add-if2 returns-2 returns-3)
+sized-by-spec = tie.close (tie.spec returns (search needs) returns-2 returns-3)

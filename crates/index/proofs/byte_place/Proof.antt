@@ -6,17 +6,8 @@ use borrow.Author.Needs.{needs}
 use Rattle.index.proofs.byte_place.Statement.{statement}
 use Rattle.index.proofs.byte_place.Tie as tie
 
-part-of-requires : tie.Need-part-of-requires
-part-of-requires c κs = search needs
-
-mul-result : tie.Need-mul-result
-mul-result c = search needs
-
 add-result : tie.Need-add-result
 add-result c = omega (arith, part-most (c .before .before .args .p) (c .before .before .pre .0))
-
-word-place-requires : tie.Need-word-place-requires
-word-place-requires c κs = search needs
 
 add-result-2 : tie.Need-add-result-2
 add-result-2 c =
@@ -24,27 +15,14 @@ add-result-2 c =
     let a = start .args in
     omega (arith, part-most (a .p) (start .pre .0), word-most (a .part))
 
-sub-result : tie.Need-sub-result
-sub-result c = search needs
-
 add-result-3 : tie.Need-add-result-3
 add-result-3 c =
     let start = c .before .before .before in
     let a = start .args in
     omega (arith, part-most (a .p) (start .pre .0), word-most (a .part))
 
-returns : tie.Need-returns
-returns c = search needs
-
 pub byte-place-spec : {M : Type 1} → statement M
 byte-place-spec =
     tie.close
-    (tie.spec
-    part-of-requires
-    mul-result
-    add-result
-    word-place-requires
-    add-result-2
-    sub-result
-    add-result-3
-    returns)
+    (tie.spec (λ c κs. search needs) (search needs) add-result (search needs) add-result-2 (search needs) add-result-3
+    (search needs))

@@ -5,26 +5,11 @@ use borrow.Author.Needs.{needs}
 use Rattle.index.proofs.close_index.Statement.{statement}
 use Rattle.index.proofs.close_index.Tie as tie
 
-enum-told : tie.Need-enum-told
-enum-told c = search needs
-
-too-much-requires : tie.Need-too-much-requires
-too-much-requires c κs = search needs
-
-unless-shown-requires : tie.Need-unless-shown-requires
-unless-shown-requires c κs = search needs
-
-enum-known-p : tie.Need-enum-known-p
-enum-known-p c = search needs
-
 other-sums-requires : tie.Need-other-sums-requires
 other-sums-requires c κs =
     let arm = c .before in
     let asked = arm .before .before .pre in
     (rw (arm .p .given .1) at (asked .0), asked .1, asked .2)
-
-unless-shown-requires-2 : tie.Need-unless-shown-requires-2
-unless-shown-requires-2 c κs = search needs
 
 returns : tie.Need-returns
 unfolding closeSidx sumFaults
@@ -37,12 +22,5 @@ returns-2 c = λ leaves last work table. rw (c .before .before .before .p .given
 pub close-index-spec : {M : Type 1} → statement M
 close-index-spec =
     tie.close
-    (tie.spec
-    enum-told
-    too-much-requires
-    unless-shown-requires
-    enum-known-p
-    other-sums-requires
-    unless-shown-requires-2
-    returns
+    (tie.spec (search needs) (search needs) (search needs) (search needs) other-sums-requires (search needs) returns
     returns-2)

@@ -7,21 +7,6 @@ use borrow.Author.Needs.{needs}
 use Rattle.index.proofs.count_end.Statement.{statement}
 use Rattle.index.proofs.count_end.Tie as tie
 
-no-count-requires : tie.Need-no-count-requires
-no-count-requires c κs = search needs
-
-unless-shown-requires : tie.Need-unless-shown-requires
-unless-shown-requires c κs = search needs
-
-mul-unless-shown : tie.Need-mul-unless-shown
-mul-unless-shown c = search needs
-
-add-unless-shown : tie.Need-add-unless-shown
-add-unless-shown c = search needs
-
-unless-shown-requires-2 : tie.Need-unless-shown-requires-2
-unless-shown-requires-2 c κs = search needs
-
 returns : tie.Need-returns
 unfolding fieldEnds countFaults
 returns c = λ p f.
@@ -29,12 +14,4 @@ returns c = λ p f.
     (c .unless-shown2 .ensures f)
 
 pub count-end-spec : {M : Type 1} → statement M
-count-end-spec =
-    tie.close
-    (tie.spec
-    no-count-requires
-    unless-shown-requires
-    mul-unless-shown
-    add-unless-shown
-    unless-shown-requires-2
-    returns)
+count-end-spec = tie.close (tie.spec (search needs) (search needs) (search needs) (search needs) (search needs) returns)

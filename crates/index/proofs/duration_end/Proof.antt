@@ -5,12 +5,9 @@ use borrow.Author.Needs.{needs}
 use Rattle.index.proofs.duration_end.Statement.{statement}
 use Rattle.index.proofs.duration_end.Tie as tie
 
-add-t5 : tie.Need-add-t5
-add-t5 c = search needs
-
 returns : tie.Need-returns
 unfolding entryEnds
 returns c = λ p span f n. refl
 
 pub duration-end-spec : {M : Type 1} → statement M
-duration-end-spec = tie.close (tie.spec add-t5 returns)
+duration-end-spec = tie.close (tie.spec (search needs) returns)

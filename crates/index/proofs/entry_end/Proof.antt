@@ -4,24 +4,6 @@ use borrow.Author.Needs.{needs}
 use Rattle.index.proofs.entry_end.Statement.{statement}
 use Rattle.index.proofs.entry_end.Tie as tie
 
-enum-told : tie.Need-enum-told
-enum-told c = search needs
-
-size-end-requires : tie.Need-size-end-requires
-size-end-requires c κs = search needs
-
-enum-told-2 : tie.Need-enum-told-2
-enum-told-2 c = search needs
-
-duration-end-requires : tie.Need-duration-end-requires
-duration-end-requires c κs = search needs
-
-enum-told-3 : tie.Need-enum-told-3
-enum-told-3 c = search needs
-
-sap-end-requires : tie.Need-sap-end-requires
-sap-end-requires c κs = search needs
-
 returns : tie.Need-returns
 returns c = λ leaves last work table.
     rw (c .before .enum-told .given .1) (c .size-end .ensures _ (flowOf leaves (c .before .before .before .args .at) last work table) _)
@@ -36,13 +18,5 @@ returns-3 c = λ leaves last work table. rw (c .before .enum-told3 .given .1) (c
 pub entry-end-spec : {M : Type 1} → statement M
 entry-end-spec =
     tie.close
-    (tie.spec
-    enum-told
-    size-end-requires
-    enum-told-2
-    duration-end-requires
-    enum-told-3
-    sap-end-requires
-    returns
-    returns-2
-    returns-3)
+    (tie.spec (search needs) (search needs) (search needs) (search needs) (search needs) (λ c κs. search needs) returns
+    returns-2 returns-3)

@@ -13,9 +13,6 @@ use Rattle.index.proofs.field_byte.Tie as tie
 spelled-requires : tie.Need-spelled-requires
 spelled-requires c κs = let a = c .args in field-small (a .part) (a .draft) (a .more) (a .acc) (c .pre .0)
 
-add-field-end : tie.Need-add-field-end
-add-field-end c = search needs
-
 field-end-requires : tie.Need-field-end-requires
 field-end-requires c κs =
     let spelt = c .before in
@@ -34,12 +31,6 @@ returns c =
     ∙ field-last (placeOf (a .p)) (a .span) (a .n) (a .b) _ (a .part) (a .draft) (a .more) (a .acc) (flowOf leaves (a .at) last work table) (spelt .spelled .ensures)
     (test .if1 .taken)
 
-sub-next-field : tie.Need-sub-next-field
-sub-next-field c = search needs
-
-next-field-requires : tie.Need-next-field-requires
-next-field-requires c κs = search needs
-
 returns-2 : tie.Need-returns-2
 returns-2 c =
     let test = c .before in
@@ -51,11 +42,4 @@ returns-2 c =
 pub field-byte-spec : {M : Type 1} → statement M
 field-byte-spec =
     tie.close
-    (tie.spec
-    spelled-requires
-    add-field-end
-    field-end-requires
-    returns
-    sub-next-field
-    next-field-requires
-    returns-2)
+    (tie.spec spelled-requires (search needs) field-end-requires returns (search needs) (search needs) returns-2)

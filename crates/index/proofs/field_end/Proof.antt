@@ -7,51 +7,6 @@ use borrow.Author.Needs.{needs}
 use Rattle.index.proofs.field_end.Statement.{statement}
 use Rattle.index.proofs.field_end.Tie as tie
 
-enum-told : tie.Need-enum-told
-enum-told c = search needs
-
-version-end-requires : tie.Need-version-end-requires
-version-end-requires c κs = search needs
-
-enum-told-2 : tie.Need-enum-told-2
-enum-told-2 c = search needs
-
-next-field-requires : tie.Need-next-field-requires
-next-field-requires c κs = search needs
-
-enum-told-3 : tie.Need-enum-told-3
-enum-told-3 c = search needs
-
-id-end-requires : tie.Need-id-end-requires
-id-end-requires c κs = search needs
-
-enum-told-4 : tie.Need-enum-told-4
-enum-told-4 c = search needs
-
-scale-end-requires : tie.Need-scale-end-requires
-scale-end-requires c κs = search needs
-
-enum-told-5 : tie.Need-enum-told-5
-enum-told-5 c = search needs
-
-time-end-requires : tie.Need-time-end-requires
-time-end-requires c κs = search needs
-
-enum-told-6 : tie.Need-enum-told-6
-enum-told-6 c = search needs
-
-offset-end-requires : tie.Need-offset-end-requires
-offset-end-requires c κs = search needs
-
-enum-told-7 : tie.Need-enum-told-7
-enum-told-7 c = search needs
-
-next-field-requires-2 : tie.Need-next-field-requires-2
-next-field-requires-2 c κs = search needs
-
-enum-told-8 : tie.Need-enum-told-8
-enum-told-8 c = search needs
-
 count-end-requires : tie.Need-count-end-requires
 unfolding indexMost
 count-end-requires c κs = (rw (c .enum-told8 .given .1) at (c .before .before .pre .0), c .before .before .pre .1)
@@ -90,28 +45,6 @@ returns-8 c = λ leaves last work table.
 pub field-end-spec : {M : Type 1} → statement M
 field-end-spec =
     tie.close
-    (tie.spec
-    enum-told
-    version-end-requires
-    enum-told-2
-    next-field-requires
-    enum-told-3
-    id-end-requires
-    enum-told-4
-    scale-end-requires
-    enum-told-5
-    time-end-requires
-    enum-told-6
-    offset-end-requires
-    enum-told-7
-    next-field-requires-2
-    enum-told-8
-    count-end-requires
-    returns
-    returns-2
-    returns-3
-    returns-4
-    returns-5
-    returns-6
-    returns-7
-    returns-8)
+    (tie.spec (search needs) (search needs) (search needs) (search needs) (search needs) (search needs) (search needs)
+    (search needs) (search needs) (search needs) (search needs) (search needs) (search needs) (search needs)
+    (search needs) count-end-requires returns returns-2 returns-3 returns-4 returns-5 returns-6 returns-7 returns-8)

@@ -5,15 +5,6 @@ use borrow.Author.Needs.{needs}
 use Rattle.index.proofs.id_end.Statement.{statement}
 use Rattle.index.proofs.id_end.Tie as tie
 
-enum-told : tie.Need-enum-told
-enum-told c = search needs
-
-enum-known-p : tie.Need-enum-known-p
-enum-known-p c = search needs
-
-unless-shown-requires : tie.Need-unless-shown-requires
-unless-shown-requires c κs = search needs
-
 returns : tie.Need-returns
 unfolding fieldEnds idFaults unless
 returns c = λ f n. rw (c .enum-told .given .1)
@@ -23,4 +14,4 @@ unfolding fieldEnds idFaults
 returns-2 c = λ f n. rw (c .before .before .before .p .given .1) (c .unless-shown .ensures f)
 
 pub id-end-spec : {M : Type 1} → statement M
-id-end-spec = tie.close (tie.spec enum-told enum-known-p unless-shown-requires returns returns-2)
+id-end-spec = tie.close (tie.spec (search needs) (search needs) (search needs) returns returns-2)

@@ -8,17 +8,11 @@ use borrow.Author.Needs.{needs}
 use Rattle.index.proofs.index_byte.Statement.{statement}
 use Rattle.index.proofs.index_byte.Tie as tie
 
-enum-known-s : tie.Need-enum-known-s
-enum-known-s c = search needs
-
 field-byte-requires : tie.Need-field-byte-requires
 field-byte-requires c κs =
     let arm = c .before in
     let asked = arm .before .before .before .pre in
     (rw (arm .s .given .1) at (asked .2), asked .3)
-
-enum-known-s-2 : tie.Need-enum-known-s-2
-enum-known-s-2 c = search needs
 
 byte-place-requires : tie.Need-byte-place-requires
 byte-place-requires c κs =
@@ -45,9 +39,6 @@ spelled-requires c κs =
     let asked = arm .before .before .before .pre in
     entry-small (arm .s2 .given .1) (asked .2)
 
-add-entry-end : tie.Need-add-entry-end
-add-entry-end c = search needs
-
 entry-end-requires : tie.Need-entry-end-requires
 entry-end-requires c κs =
     let spelt = c .before in
@@ -60,9 +51,6 @@ entry-end-requires c κs =
       omega arith,
     )
 
-same-length : tie.Need-same-length
-same-length c = search needs
-
 returns : tie.Need-returns
 returns c =
     let test = c .before in
@@ -73,17 +61,8 @@ returns c =
     c .entry-end .ensures leaves last _ table ∙ entry-last _ _ _ _ _ _ _ _ _ _ _ (arm .s2 .given .1)
     (spelt .spelled .ensures) (rw (at-byte-place .byte-place .ensures)) (test .if1 .taken)
 
-sub-next-entry : tie.Need-sub-next-entry
-sub-next-entry c = search needs
-
-next-entry-requires : tie.Need-next-entry-requires
-next-entry-requires c κs = search needs
-
 returns-2 : tie.Need-returns-2
 returns-2 c = λ leaves last table. rw (c .before .before .s .given .1) (c .field-byte .ensures leaves last _ table)
-
-same-length-2 : tie.Need-same-length-2
-same-length-2 c = search needs
 
 returns-3 : tie.Need-returns-3
 returns-3 c =
@@ -97,19 +76,6 @@ returns-3 c =
 pub index-byte-spec : {M : Type 1} → statement M
 index-byte-spec =
     tie.close
-    (tie.spec
-    enum-known-s
-    field-byte-requires
-    enum-known-s-2
-    byte-place-requires
-    slice-write-work
-    spelled-requires
-    add-entry-end
-    entry-end-requires
-    same-length
-    returns
-    sub-next-entry
-    next-entry-requires
-    returns-2
-    same-length-2
+    (tie.spec (search needs) field-byte-requires (search needs) byte-place-requires slice-write-work spelled-requires
+    (search needs) entry-end-requires (search needs) returns (search needs) (search needs) returns-2 (search needs)
     returns-3)

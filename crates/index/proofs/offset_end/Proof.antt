@@ -5,15 +5,6 @@ use borrow.Author.Needs.{needs}
 use Rattle.index.proofs.offset_end.Statement.{statement}
 use Rattle.index.proofs.offset_end.Tie as tie
 
-enum-told : tie.Need-enum-told
-enum-told c = search needs
-
-enum-told-2 : tie.Need-enum-told-2
-enum-told-2 c = search needs
-
-unless-shown-requires : tie.Need-unless-shown-requires
-unless-shown-requires c κs = search needs
-
 returns : tie.Need-returns
 unfolding fieldEnds offsetFaults unless
 returns c = λ f n. rw (c .enum-told .given .1)
@@ -23,5 +14,4 @@ unfolding fieldEnds offsetFaults
 returns-2 c = λ f n. rw (c .before .enum-told2 .given .1) (c .unless-shown .ensures f)
 
 pub offset-end-spec : {M : Type 1} → statement M
-offset-end-spec =
-    tie.close (tie.spec enum-told enum-told-2 unless-shown-requires returns returns-2)
+offset-end-spec = tie.close (tie.spec (search needs) (search needs) (search needs) returns returns-2)

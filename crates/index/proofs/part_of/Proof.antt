@@ -8,12 +8,6 @@ use borrow.Author.Needs.{needs}
 use Rattle.index.proofs.part_of.Statement.{statement}
 use Rattle.index.proofs.part_of.Tie as tie
 
-enum-told : tie.Need-enum-told
-enum-told c = search needs
-
-enum-known-p : tie.Need-enum-known-p
-enum-known-p c = search needs
-
 mul-result : tie.Need-mul-result
 mul-result c = omega (arith, subst (λ (q : Where). Shallow q) (c .before .p .given .1) (c .before .before .before .pre))
 
@@ -26,4 +20,4 @@ unfolding partOf
 returns-2 c = rw (c .before .p .given .1)
 
 pub part-of-spec : {M : Type 1} → statement M
-part-of-spec = tie.close (tie.spec enum-told enum-known-p mul-result returns returns-2)
+part-of-spec = tie.close (tie.spec (search needs) (search needs) mul-result returns returns-2)

@@ -7,24 +7,6 @@ use borrow.Author.Needs.{needs}
 use Rattle.index.proofs.scale_end.Statement.{statement}
 use Rattle.index.proofs.scale_end.Tie as tie
 
-wide-more-requires : tie.Need-wide-more-requires
-wide-more-requires c κs = search needs
-
-enum-told : tie.Need-enum-told
-enum-told c = search needs
-
-unless-shown-requires : tie.Need-unless-shown-requires
-unless-shown-requires c κs = search needs
-
-enum-known-p : tie.Need-enum-known-p
-enum-known-p c = search needs
-
-unless-shown-requires-2 : tie.Need-unless-shown-requires-2
-unless-shown-requires-2 c κs = search needs
-
-unless-shown-requires-3 : tie.Need-unless-shown-requires-3
-unless-shown-requires-3 c κs = search needs
-
 returns : tie.Need-returns
 unfolding fieldEnds scaleFaults
 returns c = λ f n. rw (c .before .enum-told .given .1, ← c .before .before .before .wide-more .ensures) (c .unless-shown .ensures f)
@@ -46,12 +28,5 @@ returns-2 c =
 pub scale-end-spec : {M : Type 1} → statement M
 scale-end-spec =
     tie.close
-    (tie.spec
-    wide-more-requires
-    enum-told
-    unless-shown-requires
-    enum-known-p
-    unless-shown-requires-2
-    unless-shown-requires-3
-    returns
+    (tie.spec (search needs) (search needs) (search needs) (search needs) (search needs) (search needs) returns
     returns-2)

@@ -5,18 +5,6 @@ use borrow.Author.Needs.{needs}
 use Rattle.index.proofs.time_end.Statement.{statement}
 use Rattle.index.proofs.time_end.Tie as tie
 
-wide-more-requires : tie.Need-wide-more-requires
-wide-more-requires c κs = search needs
-
-enum-told : tie.Need-enum-told
-enum-told c = search needs
-
-enum-told-2 : tie.Need-enum-told-2
-enum-told-2 c = search needs
-
-unless-shown-requires : tie.Need-unless-shown-requires
-unless-shown-requires c κs = search needs
-
 returns : tie.Need-returns
 unfolding fieldEnds timeFaults unless
 returns c = λ leaves last work table n. rw (c .enum-told .given .1, ← c .before .before .wide-more .ensures)
@@ -27,6 +15,4 @@ returns-2 c = λ leaves last work table n.
     rw (c .before .enum-told2 .given .1, ← c .before .before .before .wide-more .ensures) (c .unless-shown .ensures _)
 
 pub time-end-spec : {M : Type 1} → statement M
-time-end-spec =
-    tie.close
-    (tie.spec wide-more-requires enum-told enum-told-2 unless-shown-requires returns returns-2)
+time-end-spec = tie.close (tie.spec (search needs) (search needs) (search needs) (search needs) returns returns-2)

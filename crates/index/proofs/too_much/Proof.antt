@@ -8,9 +8,6 @@ use borrow.Author.Needs.{needs}
 use Rattle.index.proofs.too_much.Statement.{statement}
 use Rattle.index.proofs.too_much.Tie as tie
 
-sub-room : tie.Need-sub-room
-sub-room c = search needs
-
 returns : tie.Need-returns
 returns c =
     let a = c .before .before .args in
@@ -21,13 +18,10 @@ returns-2 c =
     let a = c .before .before .before .before .before .args in
     rw (lt-ltb limit (a .n + a .x .offset + a .x .sizes) (omega arith))
 
-sub-result : tie.Need-sub-result
-sub-result c = search needs
-
 returns-3 : tie.Need-returns-3
 returns-3 c =
     let a = c .before .before .before .before .before .before .before .args in
     rw (le-ltb limit (a .n + a .x .offset + a .x .sizes) (omega arith)) (past-time (a .x .time) (a .x .durations) (omega arith))
 
 pub too-much-spec : {M : Type 1} → statement M
-too-much-spec = tie.close (tie.spec sub-room returns returns-2 sub-result returns-3)
+too-much-spec = tie.close (tie.spec (search needs) returns returns-2 (search needs) returns-3)

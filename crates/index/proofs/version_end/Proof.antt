@@ -7,15 +7,6 @@ use borrow.Author.Needs.{needs}
 use Rattle.index.proofs.version_end.Statement.{statement}
 use Rattle.index.proofs.version_end.Tie as tie
 
-unless-shown-requires : tie.Need-unless-shown-requires
-unless-shown-requires c κs = search needs
-
-too-short-requires : tie.Need-too-short-requires
-too-short-requires c κs = search needs
-
-unless-shown-requires-2 : tie.Need-unless-shown-requires-2
-unless-shown-requires-2 c κs = search needs
-
 returns : tie.Need-returns
 unfolding fieldEnds sidxVersionFaults
 returns c = λ p d f.
@@ -23,5 +14,4 @@ returns c = λ p d f.
     (c .unless-shown2 .ensures f)
 
 pub version-end-spec : {M : Type 1} → statement M
-version-end-spec =
-    tie.close (tie.spec unless-shown-requires too-short-requires unless-shown-requires-2 returns)
+version-end-spec = tie.close (tie.spec (search needs) (search needs) (search needs) returns)

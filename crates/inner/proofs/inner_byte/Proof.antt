@@ -11,9 +11,6 @@ use borrow.Author.Needs.{needs}
 use Rattle.inner.proofs.inner_byte.Statement.{statement}
 use Rattle.inner.proofs.inner_byte.Tie as tie
 
-enum-known-s : tie.Need-enum-known-s
-enum-known-s c = search needs
-
 head-byte-requires : tie.Need-head-byte-requires
 unfolding boxBounds
 head-byte-requires c κs =
@@ -24,12 +21,6 @@ head-byte-requires c κs =
       start .pre .2,
     )
 
-inner-head-requires : tie.Need-inner-head-requires
-inner-head-requires c κs = search needs
-
-enum-known-s-2 : tie.Need-enum-known-s-2
-enum-known-s-2 c = search needs
-
 index-byte-requires : tie.Need-index-byte-requires
 unfolding boxBounds
 index-byte-requires c κs =
@@ -38,9 +29,6 @@ index-byte-requires c κs =
     let a = start .args in
     let w = subst (λ (q : InnerBox). Within (boxBounds (a .depth) q)) (arm .s2 .given .1) (start .pre .0) in
     (w .0, start .pre .1, w .1, start .pre .2, start .pre .3)
-
-inner-index-requires : tie.Need-inner-index-requires
-inner-index-requires c κs = search needs
 
 returns : tie.Need-returns
 returns c =
@@ -52,9 +40,6 @@ returns c =
     (c .inner-head .ensures (a .top) (suc (a .n)) (flowOf leaves (a .at) last _ table)
     ∙ ap (headInner (a .top) (a .slot) (a .depth) (suc (a .n))) (headed .head-byte .ensures (flowOf leaves (a .at) last _ table))
     ∙ inner-head-step (a .top) _ _ _ _ _ _)
-
-same-length : tie.Need-same-length
-same-length c = search needs
 
 returns-2 : tie.Need-returns-2
 returns-2 c =
@@ -70,13 +55,5 @@ returns-2 c =
 pub inner-byte-spec : {M : Type 1} → statement M
 inner-byte-spec =
     tie.close
-    (tie.spec
-    enum-known-s
-    head-byte-requires
-    inner-head-requires
-    enum-known-s-2
-    index-byte-requires
-    inner-index-requires
-    returns
-    same-length
-    returns-2)
+    (tie.spec (search needs) head-byte-requires (search needs) (search needs) index-byte-requires (search needs)
+    returns (search needs) returns-2)

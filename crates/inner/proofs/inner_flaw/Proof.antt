@@ -4,17 +4,11 @@ use borrow.Author.Needs.{needs}
 use Rattle.inner.proofs.inner_flaw.Statement.{statement}
 use Rattle.inner.proofs.inner_flaw.Tie as tie
 
-size-flaw-requires : tie.Need-size-flaw-requires
-size-flaw-requires c κs = search needs
-
 returns : tie.Need-returns
 returns c =
     let sized = c .before in
     let a = sized .before .args in
     inner-size (a .end) (a .depth) (a .h) _ (sized .size-flaw .ensures) (c .if1 .taken)
-
-length-flaw-requires : tie.Need-length-flaw-requires
-length-flaw-requires c κs = search needs
 
 returns-2 : tie.Need-returns-2
 returns-2 c =
@@ -70,12 +64,4 @@ returns-6 c =
 pub inner-flaw-spec : {M : Type 1} → statement M
 inner-flaw-spec =
     tie.close
-    (tie.spec
-    size-flaw-requires
-    returns
-    length-flaw-requires
-    returns-2
-    returns-3
-    returns-4
-    returns-5
-    returns-6)
+    (tie.spec (search needs) returns (search needs) returns-2 returns-3 returns-4 returns-5 returns-6)

@@ -4,27 +4,9 @@ use borrow.Author.Needs.{needs}
 use Rattle.inner.proofs.inner_head.Statement.{statement}
 use Rattle.inner.proofs.inner_head.Tie as tie
 
-enum-known-q : tie.Need-enum-known-q
-enum-known-q c = search needs
-
-enum-told : tie.Need-enum-told
-enum-told c = search needs
-
-refused-head-requires : tie.Need-refused-head-requires
-refused-head-requires c κs = search needs
-
 returns : tie.Need-returns
 unfolding lift
 returns c = λ top m f. rw (c .refused-head .ensures, c .before .enum-told .given .1)
-
-enum-known-head : tie.Need-enum-known-head
-enum-known-head c = search needs
-
-enum-known-head-2 : tie.Need-enum-known-head-2
-enum-known-head-2 c = search needs
-
-inner-headed-requires : tie.Need-inner-headed-requires
-inner-headed-requires c κs = search needs
 
 returns-2 : tie.Need-returns-2
 unfolding lift
@@ -43,13 +25,5 @@ returns-3 c =
 pub inner-head-spec : {M : Type 1} → statement M
 inner-head-spec =
     tie.close
-    (tie.spec
-    enum-known-q
-    enum-told
-    refused-head-requires
-    returns
-    enum-known-head
-    enum-known-head-2
-    inner-headed-requires
-    returns-2
-    returns-3)
+    (tie.spec (search needs) (search needs) (search needs) returns (search needs) (search needs) (search needs)
+    returns-2 returns-3)

@@ -8,9 +8,6 @@ use borrow.Author.Needs.{needs}
 use Rattle.inner.proofs.inner_headed.Statement.{statement}
 use Rattle.inner.proofs.inner_headed.Tie as tie
 
-inner-flaw-requires : tie.Need-inner-flaw-requires
-inner-flaw-requires c κs = search needs
-
 returns : tie.Need-returns
 returns c = λ top m f. inner-refused top _ _ m _ _ f (c .before .inner-flaw .ensures) (c .if1 .taken)
 
@@ -21,12 +18,8 @@ add-t8 c =
     let a = flawed .before .args in
     omega (arith, inner-fits (a .slot .end) (a .depth) (a .h) (sym (flawed .inner-flaw .ensures) ∙ test .if1 .left))
 
-index-begin-requires : tie.Need-index-begin-requires
-index-begin-requires c κs = search needs
-
 returns-2 : tie.Need-returns-2
 returns-2 c = λ top m f. rw (c .index-begin .ensures) (inner-begun top _ _ m _ _ f (c .before .before .before .inner-flaw .ensures) (c .before .before .if1 .left))
 
 pub inner-headed-spec : {M : Type 1} → statement M
-inner-headed-spec =
-    tie.close (tie.spec inner-flaw-requires returns add-t8 index-begin-requires returns-2)
+inner-headed-spec = tie.close (tie.spec (search needs) returns add-t8 (search needs) returns-2)

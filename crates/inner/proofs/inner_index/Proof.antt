@@ -4,24 +4,9 @@ use borrow.Author.Needs.{needs}
 use Rattle.inner.proofs.inner_index.Statement.{statement}
 use Rattle.inner.proofs.inner_index.Tie as tie
 
-enum-known-q : tie.Need-enum-known-q
-enum-known-q c = search needs
-
-enum-told : tie.Need-enum-told
-enum-told c = search needs
-
-refused-index-requires : tie.Need-refused-index-requires
-refused-index-requires c κs = search needs
-
 returns : tie.Need-returns
 unfolding lift
 returns c = λ f. rw (c .refused-index .ensures, c .before .enum-told .given .1)
-
-enum-known-read : tie.Need-enum-known-read
-enum-known-read c = search needs
-
-enum-known-read-2 : tie.Need-enum-known-read-2
-enum-known-read-2 c = search needs
 
 returns-2 : tie.Need-returns-2
 unfolding lift
@@ -40,12 +25,4 @@ returns-3 c =
 pub inner-index-spec : {M : Type 1} → statement M
 inner-index-spec =
     tie.close
-    (tie.spec
-    enum-known-q
-    enum-told
-    refused-index-requires
-    returns
-    enum-known-read
-    enum-known-read-2
-    returns-2
-    returns-3)
+    (tie.spec (search needs) (search needs) (search needs) returns (search needs) (search needs) returns-2 returns-3)

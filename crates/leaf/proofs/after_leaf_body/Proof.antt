@@ -12,24 +12,6 @@ use borrow.Author.Needs.{needs}
 use Rattle.leaf.proofs.after_leaf_body.Statement.{statement}
 use Rattle.leaf.proofs.after_leaf_body.Tie as tie
 
-enum-known-r : tie.Need-enum-known-r
-enum-known-r c = search needs
-
-enum-known-r-2 : tie.Need-enum-known-r-2
-enum-known-r-2 c = search needs
-
-leaf-after-requires : tie.Need-leaf-after-requires
-leaf-after-requires c κs = search needs
-
-leaf-on-requires : tie.Need-leaf-on-requires
-leaf-on-requires c κs = search needs
-
-enum-known-r-3 : tie.Need-enum-known-r-3
-enum-known-r-3 c = search needs
-
-worse-in-leaf-requires : tie.Need-worse-in-leaf-requires
-worse-in-leaf-requires c κs = search needs
-
 returns : tie.Need-returns
 unfolding lift
 returns c =
@@ -57,13 +39,5 @@ returns-3 c =
 pub after-leaf-body-spec : {M : Type 1} → statement M
 after-leaf-body-spec =
     tie.close
-    (tie.spec
-    enum-known-r
-    enum-known-r-2
-    leaf-after-requires
-    leaf-on-requires
-    enum-known-r-3
-    worse-in-leaf-requires
-    returns
-    returns-2
-    returns-3)
+    (tie.spec (search needs) (search needs) (search needs) (search needs) (search needs) (search needs) returns
+    returns-2 returns-3)

@@ -16,18 +16,6 @@ use borrow.Author.Needs.{needs}
 use Rattle.leaf.proofs.after_leaf_head.Statement.{statement}
 use Rattle.leaf.proofs.after_leaf_head.Tie as tie
 
-enum-known-r : tie.Need-enum-known-r
-enum-known-r c = search needs
-
-enum-told : tie.Need-enum-told
-enum-told c = search needs
-
-refused-head-requires : tie.Need-refused-head-requires
-refused-head-requires c κs = search needs
-
-worse-in-leaf-requires : tie.Need-worse-in-leaf-requires
-worse-in-leaf-requires c κs = search needs
-
 returns : tie.Need-returns
 unfolding lift
 returns c =
@@ -39,15 +27,6 @@ returns c =
     (c .worse-in-leaf .ensures f k
     ∙ ap (λ (x : Refusal). lowest x (pick (eqb (a .n) (a .slot .end)) (leafLacks (a .slot) (a .so) (left f)) [])) (at-refused-head .refused-head .ensures ∙ ap refusalHead e))
     ∙ sym (ap (λ (q : HeadStep). afterHead (leafBoxes id (a .slot)) wrapLeaf (a .so) (a .n) (viewHead f q)) e)
-
-enum-known-head : tie.Need-enum-known-head
-enum-known-head c = search needs
-
-enum-known-head-2 : tie.Need-enum-known-head-2
-enum-known-head-2 c = search needs
-
-after-leaf-header-requires : tie.Need-after-leaf-header-requires
-after-leaf-header-requires c κs = search needs
 
 returns-2 : tie.Need-returns-2
 unfolding lift
@@ -71,14 +50,5 @@ returns-3 c =
 pub after-leaf-head-spec : {M : Type 1} → statement M
 after-leaf-head-spec =
     tie.close
-    (tie.spec
-    enum-known-r
-    enum-told
-    refused-head-requires
-    worse-in-leaf-requires
-    returns
-    enum-known-head
-    enum-known-head-2
-    after-leaf-header-requires
-    returns-2
-    returns-3)
+    (tie.spec (search needs) (search needs) (search needs) (search needs) returns (search needs) (search needs)
+    (search needs) returns-2 returns-3)

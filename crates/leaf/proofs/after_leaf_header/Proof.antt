@@ -18,12 +18,6 @@ use borrow.Author.Needs.{needs}
 use Rattle.leaf.proofs.after_leaf_header.Statement.{statement}
 use Rattle.leaf.proofs.after_leaf_header.Tie as tie
 
-size-flaw-requires : tie.Need-size-flaw-requires
-size-flaw-requires c κs = search needs
-
-worse-in-leaf-requires : tie.Need-worse-in-leaf-requires
-worse-in-leaf-requires c κs = search needs
-
 returns : tie.Need-returns
 unfolding lift
 returns c =
@@ -36,12 +30,6 @@ returns c =
     ∙ ap (λ (m : ℕ). bad (lowest (refusal m (a .h .pos)) (pick (eqb (a .n) (a .slot .end)) (leafLacks (a .slot) (a .so) (left f)) [])) (left f)) shown
     ∙ sym (header-bad (leafBoxes id (a .slot)) wrapLeaf (a .so) (a .n) (a .h) f (a .h .pos) (leaf-placed (a .slot .end) (a .slot .pos) (a .so .moof) (a .h) f)
     (λ k. test .if1 .taken (shown ∙ k)))
-
-leaf-flaw-requires : tie.Need-leaf-flaw-requires
-leaf-flaw-requires c κs = search needs
-
-worse-in-leaf-requires-2 : tie.Need-worse-in-leaf-requires-2
-worse-in-leaf-requires-2 c κs = search needs
 
 returns-2 : tie.Need-returns-2
 unfolding lift
@@ -65,9 +53,6 @@ begin-leaf-requires c κs =
     let a = sized .before .args in
     omega (arith, size-clean (a .slot .end) (a .h) (sym (sized .size-flaw .ensures) ∙ test .if1 .left) .1)
 
-after-leaf-body-requires : tie.Need-after-leaf-body-requires
-after-leaf-body-requires c κs = search needs
-
 returns-3 : tie.Need-returns-3
 returns-3 c =
     let at-begin-leaf = c .before in
@@ -86,13 +71,5 @@ returns-3 c =
 pub after-leaf-header-spec : {M : Type 1} → statement M
 after-leaf-header-spec =
     tie.close
-    (tie.spec
-    size-flaw-requires
-    worse-in-leaf-requires
-    returns
-    leaf-flaw-requires
-    worse-in-leaf-requires-2
-    returns-2
-    begin-leaf-requires
-    after-leaf-body-requires
-    returns-3)
+    (tie.spec (search needs) (search needs) returns (search needs) (search needs) returns-2 begin-leaf-requires
+    (search needs) returns-3)

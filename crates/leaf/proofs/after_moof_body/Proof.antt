@@ -11,21 +11,6 @@ use borrow.Author.Needs.{needs}
 use Rattle.leaf.proofs.after_moof_body.Statement.{statement}
 use Rattle.leaf.proofs.after_moof_body.Tie as tie
 
-enum-known-r : tie.Need-enum-known-r
-enum-known-r c = search needs
-
-enum-known-r-2 : tie.Need-enum-known-r-2
-enum-known-r-2 c = search needs
-
-seen-after-requires : tie.Need-seen-after-requires
-seen-after-requires c κs = search needs
-
-moof-on-requires : tie.Need-moof-on-requires
-moof-on-requires c κs = search needs
-
-enum-known-r-3 : tie.Need-enum-known-r-3
-enum-known-r-3 c = search needs
-
 returns : tie.Need-returns
 unfolding lift
 returns c =
@@ -51,12 +36,4 @@ returns-3 c =
 pub after-moof-body-spec : {M : Type 1} → statement M
 after-moof-body-spec =
     tie.close
-    (tie.spec
-    enum-known-r
-    enum-known-r-2
-    seen-after-requires
-    moof-on-requires
-    enum-known-r-3
-    returns
-    returns-2
-    returns-3)
+    (tie.spec (search needs) (search needs) (search needs) (search needs) (search needs) returns returns-2 returns-3)

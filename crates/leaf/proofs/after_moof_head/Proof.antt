@@ -13,15 +13,6 @@ use borrow.Author.Needs.{needs}
 use Rattle.leaf.proofs.after_moof_head.Statement.{statement}
 use Rattle.leaf.proofs.after_moof_head.Tie as tie
 
-enum-known-r : tie.Need-enum-known-r
-enum-known-r c = search needs
-
-enum-told : tie.Need-enum-told
-enum-told c = search needs
-
-refused-head-requires : tie.Need-refused-head-requires
-refused-head-requires c κs = search needs
-
 returns : tie.Need-returns
 unfolding lift lowest
 returns c =
@@ -29,15 +20,6 @@ returns c =
     let e = c .before .enum-told .given .1 in
     λ id f. ap (λ (x : Refusal). bad x (left f)) (c .refused-head .ensures ∙ ap refusalHead e)
     ∙ sym (ap (λ (q : HeadStep). afterHead (moofBoxes id (a .end)) wrapMoof (a .seen) (a .n) (viewHead f q)) e)
-
-enum-known-head : tie.Need-enum-known-head
-enum-known-head c = search needs
-
-enum-known-head-2 : tie.Need-enum-known-head-2
-enum-known-head-2 c = search needs
-
-after-moof-header-requires : tie.Need-after-moof-header-requires
-after-moof-header-requires c κs = search needs
 
 returns-2 : tie.Need-returns-2
 unfolding lift
@@ -61,13 +43,5 @@ returns-3 c =
 pub after-moof-head-spec : {M : Type 1} → statement M
 after-moof-head-spec =
     tie.close
-    (tie.spec
-    enum-known-r
-    enum-told
-    refused-head-requires
-    returns
-    enum-known-head
-    enum-known-head-2
-    after-moof-header-requires
-    returns-2
-    returns-3)
+    (tie.spec (search needs) (search needs) (search needs) returns (search needs) (search needs) (search needs)
+    returns-2 returns-3)

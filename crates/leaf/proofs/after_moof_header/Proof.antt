@@ -14,9 +14,6 @@ use borrow.Author.Needs.{needs}
 use Rattle.leaf.proofs.after_moof_header.Statement.{statement}
 use Rattle.leaf.proofs.after_moof_header.Tie as tie
 
-size-flaw-requires : tie.Need-size-flaw-requires
-size-flaw-requires c κs = search needs
-
 returns : tie.Need-returns
 unfolding lift lowest
 returns c =
@@ -32,9 +29,6 @@ begin-moof-requires c κs =
     let a = sized .before .args in
     omega (arith, size-clean (a .end) (a .h) (sym (sized .size-flaw .ensures) ∙ c .if1 .left) .1)
 
-after-moof-body-requires : tie.Need-after-moof-body-requires
-after-moof-body-requires c κs = search needs
-
 returns-2 : tie.Need-returns-2
 returns-2 c =
     let at-begin-moof = c .before in
@@ -47,6 +41,4 @@ returns-2 c =
     (header-good (moofBoxes id (a .end)) wrapMoof (a .seen) (a .n) (a .h) f (a .h .pos) (moof-placed (a .end) (a .h)) (moof-flaw (a .end) (a .h) ∙ sym (sized .size-flaw .ensures) ∙ test .if1 .left))
 
 pub after-moof-header-spec : {M : Type 1} → statement M
-after-moof-header-spec =
-    tie.close
-    (tie.spec size-flaw-requires returns begin-moof-requires after-moof-body-requires returns-2)
+after-moof-header-spec = tie.close (tie.spec (search needs) returns begin-moof-requires (search needs) returns-2)

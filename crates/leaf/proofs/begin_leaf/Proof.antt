@@ -9,15 +9,6 @@ use borrow.Author.Needs.{needs}
 use Rattle.leaf.proofs.begin_leaf.Statement.{statement}
 use Rattle.leaf.proofs.begin_leaf.Tie as tie
 
-add-end : tie.Need-add-end
-add-end c = search needs
-
-moof-on-requires : tie.Need-moof-on-requires
-moof-on-requires c κs = search needs
-
-lift-moof-requires : tie.Need-lift-moof-requires
-lift-moof-requires c κs = search needs
-
 returns : tie.Need-returns
 unfolding beginLeaf
 returns c =
@@ -28,14 +19,9 @@ returns c =
     ∙ ap (liftMoof (a .h .pos + a .h .size)) (at-moof-on .moof-on .ensures id f)
     ∙ sym (pick-yes _ _ _ (eq-eqb _ _ (test .if1 .taken)))
 
-skip-leaf-requires : tie.Need-skip-leaf-requires
-skip-leaf-requires c κs = search needs
-
 returns-2 : tie.Need-returns-2
 unfolding beginLeaf
 returns-2 c = λ id f. c .skip-leaf .ensures f ∙ sym (pick-no _ _ _ (ne-eqb _ _ (c .before .if1 .left)))
 
 pub begin-leaf-spec : {M : Type 1} → statement M
-begin-leaf-spec =
-    tie.close
-    (tie.spec add-end moof-on-requires lift-moof-requires returns skip-leaf-requires returns-2)
+begin-leaf-spec = tie.close (tie.spec (search needs) (search needs) (search needs) returns (search needs) returns-2)

@@ -9,15 +9,6 @@ use borrow.Author.Needs.{needs}
 use Rattle.leaf.proofs.begin_moof.Statement.{statement}
 use Rattle.leaf.proofs.begin_moof.Tie as tie
 
-add-end : tie.Need-add-end
-add-end c = search needs
-
-traf-begin-requires : tie.Need-traf-begin-requires
-traf-begin-requires c κs = search needs
-
-lift-traf-requires : tie.Need-lift-traf-requires
-lift-traf-requires c κs = search needs
-
 returns : tie.Need-returns
 unfolding beginMoof
 returns c =
@@ -28,14 +19,9 @@ returns c =
     ∙ ap (liftTraf (spanOf (a .h))) (at-traf-begin .traf-begin .ensures id f)
     ∙ sym (pick-yes _ _ _ (eq-eqb _ _ (test .if1 .taken)))
 
-skip-moof-requires : tie.Need-skip-moof-requires
-skip-moof-requires c κs = search needs
-
 returns-2 : tie.Need-returns-2
 unfolding beginMoof
 returns-2 c = λ id f. c .skip-moof .ensures f ∙ sym (pick-no _ _ _ (ne-eqb _ _ (c .before .if1 .left)))
 
 pub begin-moof-spec : {M : Type 1} → statement M
-begin-moof-spec =
-    tie.close
-    (tie.spec add-end traf-begin-requires lift-traf-requires returns skip-moof-requires returns-2)
+begin-moof-spec = tie.close (tie.spec (search needs) (search needs) (search needs) returns (search needs) returns-2)

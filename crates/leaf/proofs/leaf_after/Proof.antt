@@ -7,12 +7,6 @@ use borrow.Author.Needs.{needs}
 use Rattle.leaf.proofs.leaf_after.Statement.{statement}
 use Rattle.leaf.proofs.leaf_after.Tie as tie
 
-enum-told : tie.Need-enum-told
-enum-told c = search needs
-
-enum-known-p : tie.Need-enum-known-p
-enum-known-p c = search needs
-
 returns : tie.Need-returns
 unfolding leafNow
 returns c = sym (ap (λ (q : Pass). leafNow (c .before .before .args .so) (passedOf q)) (c .enum-told .given .1))
@@ -22,4 +16,4 @@ unfolding leafNow
 returns-2 c = sym (ap (λ (q : Pass). leafNow (c .before .before .before .args .so) (passedOf q)) (c .before .p .given .1))
 
 pub leaf-after-spec : {M : Type 1} → statement M
-leaf-after-spec = tie.close (tie.spec enum-told enum-known-p returns returns-2)
+leaf-after-spec = tie.close (tie.spec (search needs) (search needs) returns returns-2)

@@ -9,27 +9,12 @@ use borrow.Author.Needs.{needs}
 use Rattle.leaf.proofs.leaf_body_byte.Statement.{statement}
 use Rattle.leaf.proofs.leaf_body_byte.Tie as tie
 
-enum-known-s : tie.Need-enum-known-s
-enum-known-s c = search needs
-
-add-skip-leaf : tie.Need-add-skip-leaf
-add-skip-leaf c = search needs
-
-skip-leaf-requires : tie.Need-skip-leaf-requires
-skip-leaf-requires c κs = search needs
-
-enum-known-s-2 : tie.Need-enum-known-s-2
-enum-known-s-2 c = search needs
-
 moof-byte-requires : tie.Need-moof-byte-requires
 unfolding leafBodyBounds
 moof-byte-requires c κs =
     let arm = c .before in
     let asked = arm .before .before .pre in
     (subst (λ (q : LeafBody). Within (leafBodyBounds q)) (arm .s2 .given .1) (asked .0), asked .1)
-
-lift-moof-requires : tie.Need-lift-moof-requires
-lift-moof-requires c κs = search needs
 
 returns : tie.Need-returns
 unfolding stepLeafBody
@@ -53,12 +38,5 @@ returns-2 c =
 pub leaf-body-byte-spec : {M : Type 1} → statement M
 leaf-body-byte-spec =
     tie.close
-    (tie.spec
-    enum-known-s
-    add-skip-leaf
-    skip-leaf-requires
-    enum-known-s-2
-    moof-byte-requires
-    lift-moof-requires
-    returns
+    (tie.spec (search needs) (search needs) (search needs) (search needs) moof-byte-requires (search needs) returns
     returns-2)

@@ -14,9 +14,6 @@ use borrow.Author.Needs.{needs}
 use Rattle.leaf.proofs.leaf_byte.Statement.{statement}
 use Rattle.leaf.proofs.leaf_byte.Tie as tie
 
-enum-known-s : tie.Need-enum-known-s
-enum-known-s c = search needs
-
 head-byte-requires : tie.Need-head-byte-requires
 unfolding leafBounds
 head-byte-requires c κs =
@@ -24,27 +21,12 @@ head-byte-requires c κs =
     let asked = arm .before .before .pre in
     (subst (λ (q : LeafBoxes). Within (leafBounds q)) (arm .s .given .1) (asked .0), asked .1)
 
-add-after-leaf-head : tie.Need-add-after-leaf-head
-add-after-leaf-head c = search needs
-
-after-leaf-head-requires : tie.Need-after-leaf-head-requires
-after-leaf-head-requires c κs = search needs
-
-enum-known-s-2 : tie.Need-enum-known-s-2
-enum-known-s-2 c = search needs
-
 leaf-body-byte-requires : tie.Need-leaf-body-byte-requires
 unfolding leafBounds
 leaf-body-byte-requires c κs =
     let arm = c .before in
     let asked = arm .before .before .pre in
     (subst (λ (q : LeafBoxes). Within (leafBounds q)) (arm .s2 .given .1) (asked .0), asked .1)
-
-add-after-leaf-body : tie.Need-add-after-leaf-body
-add-after-leaf-body c = search needs
-
-after-leaf-body-requires : tie.Need-after-leaf-body-requires
-after-leaf-body-requires c κs = search needs
 
 returns : tie.Need-returns
 unfolding stepLeaf stepBox
@@ -72,14 +54,5 @@ returns-2 c =
 pub leaf-byte-spec : {M : Type 1} → statement M
 leaf-byte-spec =
     tie.close
-    (tie.spec
-    enum-known-s
-    head-byte-requires
-    add-after-leaf-head
-    after-leaf-head-requires
-    enum-known-s-2
-    leaf-body-byte-requires
-    add-after-leaf-body
-    after-leaf-body-requires
-    returns
-    returns-2)
+    (tie.spec (search needs) head-byte-requires (search needs) (search needs) (search needs) leaf-body-byte-requires
+    (search needs) (search needs) returns returns-2)

@@ -8,9 +8,6 @@ use borrow.Author.Needs.{needs}
 use Rattle.leaf.proofs.leaf_flaw.Statement.{statement}
 use Rattle.leaf.proofs.leaf_flaw.Tie as tie
 
-length-flaw-requires : tie.Need-length-flaw-requires
-length-flaw-requires c κs = search needs
-
 returns : tie.Need-returns
 returns c =
     let measured = c .before in
@@ -27,9 +24,6 @@ returns-2 c =
     λ f e. sym (leaf-flaws (a .pos) (a .had) (a .h) f (a .full) e
     ∙ pick-yes _ _ _ (eq-eqb _ _ (sym (measured .length-flaw .ensures) ∙ test .if1 .left))
     ∙ pick-yes _ _ _ (eq-eqb _ _ (c .if2 .taken)))
-
-misplaced-requires : tie.Need-misplaced-requires
-misplaced-requires c κs = search needs
 
 returns-3 : tie.Need-returns-3
 returns-3 c =
@@ -90,12 +84,4 @@ returns-6 c =
 pub leaf-flaw-spec : {M : Type 1} → statement M
 leaf-flaw-spec =
     tie.close
-    (tie.spec
-    length-flaw-requires
-    returns
-    returns-2
-    misplaced-requires
-    returns-3
-    returns-4
-    returns-5
-    returns-6)
+    (tie.spec (search needs) returns returns-2 (search needs) returns-3 returns-4 returns-5 returns-6)

@@ -19,9 +19,6 @@ returns : tie.Need-returns
 unfolding goOn leafNext unless pick
 returns c = λ id f e. simp (ne-eqb _ _ (c .if1 .taken))
 
-leaf-lack-requires : tie.Need-leaf-lack-requires
-leaf-lack-requires c κs = search needs
-
 returns-2 : tie.Need-returns-2
 returns-2 c =
     let lacking = c .before in
@@ -39,4 +36,4 @@ returns-3 c =
     ∙ pick-yes _ _ _ (eq-eqb _ _ (sym (lacking .leaf-lack .ensures) ∙ c .if2 .left)))
 
 pub leaf-on-spec : {M : Type 1} → statement M
-leaf-on-spec = tie.close (tie.spec returns leaf-lack-requires returns-2 returns-3)
+leaf-on-spec = tie.close (tie.spec returns (search needs) returns-2 returns-3)

@@ -8,15 +8,6 @@ use borrow.Author.Needs.{needs}
 use Rattle.leaf.proofs.lift_moof.Statement.{statement}
 use Rattle.leaf.proofs.lift_moof.Tie as tie
 
-enum-known-r : tie.Need-enum-known-r
-enum-known-r c = search needs
-
-enum-known-r-2 : tie.Need-enum-known-r-2
-enum-known-r-2 c = search needs
-
-enum-known-r-3 : tie.Need-enum-known-r-3
-enum-known-r-3 c = search needs
-
 returns : tie.Need-returns
 unfolding lift
 returns c = λ f. sym (ap (λ (q : MoofStep). liftMoof (c .before .before .before .args .end) (viewMoof f q)) (c .before .r .given .1))
@@ -30,5 +21,4 @@ unfolding lift
 returns-3 c = λ f. sym (ap (λ (q : MoofStep). liftMoof (c .before .before .before .args .end) (viewMoof f q)) (c .before .r3 .given .1))
 
 pub lift-moof-spec : {M : Type 1} → statement M
-lift-moof-spec =
-    tie.close (tie.spec enum-known-r enum-known-r-2 enum-known-r-3 returns returns-2 returns-3)
+lift-moof-spec = tie.close (tie.spec (search needs) (search needs) (search needs) returns returns-2 returns-3)

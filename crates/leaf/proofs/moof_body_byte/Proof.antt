@@ -9,27 +9,12 @@ use borrow.Author.Needs.{needs}
 use Rattle.leaf.proofs.moof_body_byte.Statement.{statement}
 use Rattle.leaf.proofs.moof_body_byte.Tie as tie
 
-enum-known-s : tie.Need-enum-known-s
-enum-known-s c = search needs
-
-add-skip-moof : tie.Need-add-skip-moof
-add-skip-moof c = search needs
-
-skip-moof-requires : tie.Need-skip-moof-requires
-skip-moof-requires c κs = search needs
-
-enum-known-s-2 : tie.Need-enum-known-s-2
-enum-known-s-2 c = search needs
-
 traf-byte-requires : tie.Need-traf-byte-requires
 unfolding moofBodyBounds
 traf-byte-requires c κs =
     let arm = c .before in
     let asked = arm .before .before .pre in
     (subst (λ (q : MoofBody). Within (moofBodyBounds q)) (arm .s2 .given .1) (asked .0), asked .1)
-
-lift-traf-requires : tie.Need-lift-traf-requires
-lift-traf-requires c κs = search needs
 
 returns : tie.Need-returns
 unfolding stepMoofBody
@@ -53,12 +38,5 @@ returns-2 c =
 pub moof-body-byte-spec : {M : Type 1} → statement M
 moof-body-byte-spec =
     tie.close
-    (tie.spec
-    enum-known-s
-    add-skip-moof
-    skip-moof-requires
-    enum-known-s-2
-    traf-byte-requires
-    lift-traf-requires
-    returns
+    (tie.spec (search needs) (search needs) (search needs) (search needs) traf-byte-requires (search needs) returns
     returns-2)

@@ -14,9 +14,6 @@ use borrow.Author.Needs.{needs}
 use Rattle.leaf.proofs.moof_byte.Statement.{statement}
 use Rattle.leaf.proofs.moof_byte.Tie as tie
 
-enum-known-s : tie.Need-enum-known-s
-enum-known-s c = search needs
-
 head-byte-requires : tie.Need-head-byte-requires
 unfolding moofBounds
 head-byte-requires c κs =
@@ -24,27 +21,12 @@ head-byte-requires c κs =
     let asked = arm .before .before .pre in
     (subst (λ (q : MoofBoxes). Within (moofBounds q)) (arm .s .given .1) (asked .0), asked .1)
 
-add-after-moof-head : tie.Need-add-after-moof-head
-add-after-moof-head c = search needs
-
-after-moof-head-requires : tie.Need-after-moof-head-requires
-after-moof-head-requires c κs = search needs
-
-enum-known-s-2 : tie.Need-enum-known-s-2
-enum-known-s-2 c = search needs
-
 moof-body-byte-requires : tie.Need-moof-body-byte-requires
 unfolding moofBounds
 moof-body-byte-requires c κs =
     let arm = c .before in
     let asked = arm .before .before .pre in
     (subst (λ (q : MoofBoxes). Within (moofBounds q)) (arm .s2 .given .1) (asked .0), asked .1)
-
-add-after-moof-body : tie.Need-add-after-moof-body
-add-after-moof-body c = search needs
-
-after-moof-body-requires : tie.Need-after-moof-body-requires
-after-moof-body-requires c κs = search needs
 
 returns : tie.Need-returns
 unfolding stepMoof stepBox
@@ -71,14 +53,5 @@ returns-2 c =
 pub moof-byte-spec : {M : Type 1} → statement M
 moof-byte-spec =
     tie.close
-    (tie.spec
-    enum-known-s
-    head-byte-requires
-    add-after-moof-head
-    after-moof-head-requires
-    enum-known-s-2
-    moof-body-byte-requires
-    add-after-moof-body
-    after-moof-body-requires
-    returns
-    returns-2)
+    (tie.spec (search needs) head-byte-requires (search needs) (search needs) (search needs) moof-body-byte-requires
+    (search needs) (search needs) returns returns-2)

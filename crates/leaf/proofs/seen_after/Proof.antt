@@ -7,12 +7,6 @@ use borrow.Author.Needs.{needs}
 use Rattle.leaf.proofs.seen_after.Statement.{statement}
 use Rattle.leaf.proofs.seen_after.Tie as tie
 
-enum-told : tie.Need-enum-told
-enum-told c = search needs
-
-enum-known-p : tie.Need-enum-known-p
-enum-known-p c = search needs
-
 returns : tie.Need-returns
 unfolding seenNow
 returns c = sym (ap (λ (q : Pass). seenNow (c .before .before .args .seen) (passedOf q)) (c .enum-told .given .1))
@@ -22,4 +16,4 @@ unfolding seenNow
 returns-2 c = sym (ap (λ (q : Pass). seenNow (c .before .before .before .args .seen) (passedOf q)) (c .before .p .given .1))
 
 pub seen-after-spec : {M : Type 1} → statement M
-seen-after-spec = tie.close (tie.spec enum-told enum-known-p returns returns-2)
+seen-after-spec = tie.close (tie.spec (search needs) (search needs) returns returns-2)

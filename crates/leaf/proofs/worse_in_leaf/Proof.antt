@@ -17,9 +17,6 @@ returns : tie.Need-returns
 unfolding pick lowest
 returns c = λ f e. simp (ne-eqb _ _ (c .if1 .taken))
 
-leaf-lack-requires : tie.Need-leaf-lack-requires
-leaf-lack-requires c κs = search needs
-
 returns-2 : tie.Need-returns-2
 returns-2 c =
     let lacking = c .before in
@@ -50,4 +47,4 @@ returns-4 c =
     ∙ pick-no _ _ _ (le-ltb (lackOf (a .full) (a .so .seen .any)) (a .x .number) (omega (arith, c .if3 .left, lacking .leaf-lack .ensures))))
 
 pub worse-in-leaf-spec : {M : Type 1} → statement M
-worse-in-leaf-spec = tie.close (tie.spec returns leaf-lack-requires returns-2 returns-3 returns-4)
+worse-in-leaf-spec = tie.close (tie.spec returns (search needs) returns-2 returns-3 returns-4)

@@ -8,12 +8,6 @@ use borrow.Author.Needs.{needs}
 use Rattle.next_stage.proofs.follow.Statement.{statement}
 use Rattle.next_stage.proofs.follow.Tie as tie
 
-still-open-requires : tie.Need-still-open-requires
-still-open-requires c κs = search needs
-
-onward-requires : tie.Need-onward-requires
-onward-requires c κs = search needs
-
 returns : tie.Need-returns
 returns c =
     let at-still-open = c .before in
@@ -21,4 +15,4 @@ returns c =
     λ leaves work table. c .onward .ensures leaves work table ∙ ap (λ (o : Option Levels). defs.onward (a .top) o (flowing (a .r) work table)) (at-still-open .still-open .ensures)
 
 pub follow-spec : {M : Type 1} → statement M
-follow-spec = tie.close (tie.spec still-open-requires onward-requires returns)
+follow-spec = tie.close (tie.spec (search needs) (search needs) returns)

@@ -6,18 +6,6 @@ use borrow.Author.Needs.{needs}
 use Rattle.next_stage.proofs.index_ends.Statement.{statement}
 use Rattle.next_stage.proofs.index_ends.Tie as tie
 
-add-start : tie.Need-add-start
-add-start c = search needs
-
-add-t9 : tie.Need-add-t9
-add-t9 c = search needs
-
-add-t10 : tie.Need-add-t10
-add-t10 c = search needs
-
-follow-requires : tie.Need-follow-requires
-follow-requires c κs = search needs
-
 returns : tie.Need-returns
 returns c =
     let test = c .before in
@@ -30,4 +18,4 @@ returns-2 c =
     λ leaves work table. gap-follows _ (flowing (a .r) work table) _ (c .if1 .left)
 
 pub index-ends-spec : {M : Type 1} → statement M
-index-ends-spec = tie.close (tie.spec add-start add-t9 add-t10 follow-requires returns returns-2)
+index-ends-spec = tie.close (tie.spec (search needs) (search needs) (search needs) (search needs) returns returns-2)

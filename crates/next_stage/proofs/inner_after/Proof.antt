@@ -9,21 +9,6 @@ use borrow.Author.Needs.{needs}
 use Rattle.next_stage.proofs.inner_after.Statement.{statement}
 use Rattle.next_stage.proofs.inner_after.Tie as tie
 
-enum-known-q : tie.Need-enum-known-q
-enum-known-q c = search needs
-
-enum-known-q-2 : tie.Need-enum-known-q-2
-enum-known-q-2 c = search needs
-
-push-requires : tie.Need-push-requires
-push-requires c κs = search needs
-
-follow-requires : tie.Need-follow-requires
-follow-requires c κs = search needs
-
-enum-known-q-3 : tie.Need-enum-known-q-3
-enum-known-q-3 c = search needs
-
 returns : tie.Need-returns
 returns c =
     let arm = c .before in
@@ -46,12 +31,4 @@ returns-3 c = λ work table. rw (c .before .q3 .given .1)
 pub inner-after-spec : {M : Type 1} → statement M
 inner-after-spec =
     tie.close
-    (tie.spec
-    enum-known-q
-    enum-known-q-2
-    push-requires
-    follow-requires
-    enum-known-q-3
-    returns
-    returns-2
-    returns-3)
+    (tie.spec (search needs) (search needs) (search needs) (search needs) (search needs) returns returns-2 returns-3)

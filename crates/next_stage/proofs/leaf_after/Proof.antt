@@ -8,21 +8,6 @@ use borrow.Author.Needs.{needs}
 use Rattle.next_stage.proofs.leaf_after.Statement.{statement}
 use Rattle.next_stage.proofs.leaf_after.Tie as tie
 
-enum-known-q : tie.Need-enum-known-q
-enum-known-q c = search needs
-
-enum-known-q-2 : tie.Need-enum-known-q-2
-enum-known-q-2 c = search needs
-
-add-t11 : tie.Need-add-t11
-add-t11 c = search needs
-
-follow-requires : tie.Need-follow-requires
-follow-requires c κs = search needs
-
-enum-known-q-3 : tie.Need-enum-known-q-3
-enum-known-q-3 c = search needs
-
 returns : tie.Need-returns
 unfolding lift tableAfter
 returns c = λ work table. rw (c .before .q .given .1)
@@ -42,12 +27,4 @@ returns-3 c = λ work table. rw (c .before .q3 .given .1)
 pub leaf-after-spec : {M : Type 1} → statement M
 leaf-after-spec =
     tie.close
-    (tie.spec
-    enum-known-q
-    enum-known-q-2
-    add-t11
-    follow-requires
-    enum-known-q-3
-    returns
-    returns-2
-    returns-3)
+    (tie.spec (search needs) (search needs) (search needs) (search needs) (search needs) returns returns-2 returns-3)

@@ -4,12 +4,6 @@ use borrow.Author.Needs.{needs}
 use Rattle.next_stage.proofs.onward.Statement.{statement}
 use Rattle.next_stage.proofs.onward.Tie as tie
 
-enum-known-still : tie.Need-enum-known-still
-enum-known-still c = search needs
-
-enum-told : tie.Need-enum-told
-enum-told c = search needs
-
 returns : tie.Need-returns
 unfolding defs.onward
 returns c = λ leaves work table. rw (c .before .still .given .1)
@@ -19,4 +13,4 @@ unfolding defs.onward
 returns-2 c = λ leaves work table. rw (c .enum-told .given .1)
 
 pub onward-spec : {M : Type 1} → statement M
-onward-spec = tie.close (tie.spec enum-known-still enum-told returns returns-2)
+onward-spec = tie.close (tie.spec (search needs) (search needs) returns returns-2)

@@ -7,21 +7,12 @@ use borrow.Author.Needs.{needs}
 use Rattle.next_stage.proofs.opening_after.Statement.{statement}
 use Rattle.next_stage.proofs.opening_after.Tie as tie
 
-enum-known-q : tie.Need-enum-known-q
-enum-known-q c = search needs
-
-enum-known-q-2 : tie.Need-enum-known-q-2
-enum-known-q-2 c = search needs
-
 index-ends-requires : tie.Need-index-ends-requires
 index-ends-requires c κs =
     let arm = c .before in
     let start = arm .before .before in
     let a = start .args in
     subst (λ (q : OpeningStep). EndsIn (a .n) q) (arm .q2 .given .1) (start .pre)
-
-enum-known-q-3 : tie.Need-enum-known-q-3
-enum-known-q-3 c = search needs
 
 returns : tie.Need-returns
 unfolding lift
@@ -38,11 +29,4 @@ returns-3 c = λ work table. rw (c .before .q3 .given .1)
 pub opening-after-spec : {M : Type 1} → statement M
 opening-after-spec =
     tie.close
-    (tie.spec
-    enum-known-q
-    enum-known-q-2
-    index-ends-requires
-    enum-known-q-3
-    returns
-    returns-2
-    returns-3)
+    (tie.spec (search needs) (search needs) index-ends-requires (search needs) returns returns-2 returns-3)

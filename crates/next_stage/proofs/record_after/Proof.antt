@@ -8,29 +8,11 @@ use borrow.Author.Needs.{needs}
 use Rattle.next_stage.proofs.record_after.Statement.{statement}
 use Rattle.next_stage.proofs.record_after.Tie as tie
 
-enum-told : tie.Need-enum-told
-enum-told c = search needs
-
-enum-known-q : tie.Need-enum-known-q
-enum-known-q c = search needs
-
-leaf-record-requires : tie.Need-leaf-record-requires
-leaf-record-requires c κs = search needs
-
-put-record-requires : tie.Need-put-record-requires
-put-record-requires c κs = search needs
-
-enum-told-2 : tie.Need-enum-told-2
-enum-told-2 c = search needs
-
 returns : tie.Need-returns
 unfolding tableAfter
 returns c =
     let a = c .before .before .before .args in
     sym (ap (λ (q : LeafStep). tableAfter (a .leaves) (a .slot) (a .at) q (a .table .now)) (c .enum-told .given .1))
-
-same-length : tie.Need-same-length
-same-length c = search needs
 
 returns-2 : tie.Need-returns-2
 unfolding tableAfter
@@ -51,13 +33,4 @@ returns-3 c =
 pub record-after-spec : {M : Type 1} → statement M
 record-after-spec =
     tie.close
-    (tie.spec
-    enum-told
-    enum-known-q
-    leaf-record-requires
-    put-record-requires
-    enum-told-2
-    returns
-    same-length
-    returns-2
-    returns-3)
+    (tie.spec (search needs) (search needs) (search needs) (search needs) returns (search needs) returns-2 returns-3)

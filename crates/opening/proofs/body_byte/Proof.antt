@@ -13,18 +13,6 @@ use borrow.Author.Needs.{needs}
 use Rattle.opening.proofs.body_byte.Statement.{statement}
 use Rattle.opening.proofs.body_byte.Tie as tie
 
-enum-known-s : tie.Need-enum-known-s
-enum-known-s c = search needs
-
-add-opening-skip : tie.Need-add-opening-skip
-add-opening-skip c = search needs
-
-opening-skip-requires : tie.Need-opening-skip-requires
-opening-skip-requires c κs = search needs
-
-enum-known-s-2 : tie.Need-enum-known-s-2
-enum-known-s-2 c = search needs
-
 styp-byte-requires : tie.Need-styp-byte-requires
 unfolding openingBodyBounds
 styp-byte-requires c κs =
@@ -32,9 +20,6 @@ styp-byte-requires c κs =
     let asked = arm .before .before .before .pre in
     let w = subst (λ (q : OpeningBody). Within (openingBodyBounds q)) (arm .s2 .given .1) (asked .0) in
     (spelled-small 3 _ _ (omega arith) w, asked .1)
-
-enum-known-s-3 : tie.Need-enum-known-s-3
-enum-known-s-3 c = search needs
 
 index-byte-requires : tie.Need-index-byte-requires
 unfolding openingBodyBounds
@@ -48,9 +33,6 @@ index-byte-requires c κs =
       asked .2,
     )
 
-opening-index-requires : tie.Need-opening-index-requires
-opening-index-requires c κs = search needs
-
 returns : tie.Need-returns
 returns c =
     let arm = c .before .before in
@@ -62,9 +44,6 @@ returns c =
 
 returns-2 : tie.Need-returns-2
 returns-2 c = λ leaves at last table. rw (c .before .before .s2 .given .1) (c .styp-byte .ensures (flowOf leaves at last _ table))
-
-same-length : tie.Need-same-length
-same-length c = search needs
 
 returns-3 : tie.Need-returns-3
 returns-3 c =
@@ -78,16 +57,5 @@ returns-3 c =
 pub body-byte-spec : {M : Type 1} → statement M
 body-byte-spec =
     tie.close
-    (tie.spec
-    enum-known-s
-    add-opening-skip
-    opening-skip-requires
-    enum-known-s-2
-    styp-byte-requires
-    enum-known-s-3
-    index-byte-requires
-    opening-index-requires
-    returns
-    returns-2
-    same-length
-    returns-3)
+    (tie.spec (search needs) (search needs) (search needs) (search needs) styp-byte-requires (search needs)
+    index-byte-requires (search needs) returns returns-2 (search needs) returns-3)

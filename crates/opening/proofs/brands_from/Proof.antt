@@ -11,9 +11,6 @@ use borrow.Author.Needs.{needs}
 use Rattle.opening.proofs.brands_from.Statement.{statement}
 use Rattle.opening.proofs.brands_from.Tie as tie
 
-opening-next-requires : tie.Need-opening-next-requires
-opening-next-requires c κs = search needs
-
 returns : tie.Need-returns
 unfolding brandsFrom lift goOn closeOpening pick unless shows
 returns c = λ brand f. ap (viewOpening f) (c .opening-next .ensures) ∙ simp (eq-eqb _ _ (c .before .before .if1 .taken), c .before .if2 .taken)
@@ -27,4 +24,4 @@ unfolding brandsFrom lift pick
 returns-3 c = λ brand f. simp (ne-eqb _ _ (c .if1 .left))
 
 pub brands-from-spec : {M : Type 1} → statement M
-brands-from-spec = tie.close (tie.spec opening-next-requires returns returns-2 returns-3)
+brands-from-spec = tie.close (tie.spec (search needs) returns returns-2 returns-3)

@@ -10,30 +10,12 @@ use borrow.Author.Needs.{needs}
 use Rattle.opening.proofs.gap_byte.Statement.{statement}
 use Rattle.opening.proofs.gap_byte.Tie as tie
 
-enum-known-s : tie.Need-enum-known-s
-enum-known-s c = search needs
-
 head-byte-requires : tie.Need-head-byte-requires
 unfolding gapBounds
 head-byte-requires c κs =
     let arm = c .before in
     let asked = arm .before .before .pre in
     (subst (λ (q : GapBoxes). Within (gapBounds q)) (arm .s .given .1) (asked .0), asked .1)
-
-add-gap-head : tie.Need-add-gap-head
-add-gap-head c = search needs
-
-gap-head-requires : tie.Need-gap-head-requires
-gap-head-requires c κs = search needs
-
-enum-known-s-2 : tie.Need-enum-known-s-2
-enum-known-s-2 c = search needs
-
-add-gap-skip : tie.Need-add-gap-skip
-add-gap-skip c = search needs
-
-gap-skip-requires : tie.Need-gap-skip-requires
-gap-skip-requires c κs = search needs
 
 returns : tie.Need-returns
 returns c =
@@ -55,13 +37,5 @@ returns-2 c =
 pub gap-byte-spec : {M : Type 1} → statement M
 gap-byte-spec =
     tie.close
-    (tie.spec
-    enum-known-s
-    head-byte-requires
-    add-gap-head
-    gap-head-requires
-    enum-known-s-2
-    add-gap-skip
-    gap-skip-requires
-    returns
-    returns-2)
+    (tie.spec (search needs) head-byte-requires (search needs) (search needs) (search needs) (search needs)
+    (search needs) returns returns-2)

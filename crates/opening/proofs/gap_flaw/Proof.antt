@@ -4,17 +4,11 @@ use borrow.Author.Needs.{needs}
 use Rattle.opening.proofs.gap_flaw.Statement.{statement}
 use Rattle.opening.proofs.gap_flaw.Tie as tie
 
-size-flaw-requires : tie.Need-size-flaw-requires
-size-flaw-requires c κs = search needs
-
 returns : tie.Need-returns
 returns c =
     let sized = c .before in
     let a = sized .before .args in
     gap-size (a .end) (a .h) _ (sized .size-flaw .ensures) (c .if1 .taken)
-
-length-flaw-requires : tie.Need-length-flaw-requires
-length-flaw-requires c κs = search needs
 
 returns-2 : tie.Need-returns-2
 returns-2 c =
@@ -84,13 +78,4 @@ returns-7 c =
 pub gap-flaw-spec : {M : Type 1} → statement M
 gap-flaw-spec =
     tie.close
-    (tie.spec
-    size-flaw-requires
-    returns
-    length-flaw-requires
-    returns-2
-    returns-3
-    returns-4
-    returns-5
-    returns-6
-    returns-7)
+    (tie.spec (search needs) returns (search needs) returns-2 returns-3 returns-4 returns-5 returns-6 returns-7)

@@ -5,27 +5,9 @@ use borrow.Author.Needs.{needs}
 use Rattle.opening.proofs.gap_head.Statement.{statement}
 use Rattle.opening.proofs.gap_head.Tie as tie
 
-enum-known-q : tie.Need-enum-known-q
-enum-known-q c = search needs
-
-enum-told : tie.Need-enum-told
-enum-told c = search needs
-
-refused-head-requires : tie.Need-refused-head-requires
-refused-head-requires c κs = search needs
-
 returns : tie.Need-returns
 unfolding lift lowest
 returns c = λ f. rw (c .refused-head .ensures, c .before .enum-told .given .1)
-
-enum-known-head : tie.Need-enum-known-head
-enum-known-head c = search needs
-
-enum-known-head-2 : tie.Need-enum-known-head-2
-enum-known-head-2 c = search needs
-
-gap-headed-requires : tie.Need-gap-headed-requires
-gap-headed-requires c κs = search needs
 
 returns-2 : tie.Need-returns-2
 unfolding lift
@@ -44,13 +26,5 @@ returns-3 c =
 pub gap-head-spec : {M : Type 1} → statement M
 gap-head-spec =
     tie.close
-    (tie.spec
-    enum-known-q
-    enum-told
-    refused-head-requires
-    returns
-    enum-known-head
-    enum-known-head-2
-    gap-headed-requires
-    returns-2
-    returns-3)
+    (tie.spec (search needs) (search needs) (search needs) returns (search needs) (search needs) (search needs)
+    returns-2 returns-3)

@@ -7,9 +7,6 @@ use borrow.Author.Needs.{needs}
 use Rattle.opening.proofs.gap_headed.Statement.{statement}
 use Rattle.opening.proofs.gap_headed.Tie as tie
 
-gap-flaw-requires : tie.Need-gap-flaw-requires
-gap-flaw-requires c κs = search needs
-
 returns : tie.Need-returns
 returns c = λ f. gap-refused _ _ _ _ f (c .before .gap-flaw .ensures) (c .if1 .taken)
 
@@ -20,12 +17,8 @@ add-gap-skip c =
     let a = flawed .before .args in
     omega (arith, gap-fits (a .end) (a .h) (sym (flawed .gap-flaw .ensures) ∙ test .if1 .left))
 
-gap-skip-requires : tie.Need-gap-skip-requires
-gap-skip-requires c κs = search needs
-
 returns-2 : tie.Need-returns-2
 returns-2 c = λ f. c .gap-skip .ensures f ∙ gap-begun _ _ _ _ f (c .before .before .before .gap-flaw .ensures) (c .before .before .if1 .left)
 
 pub gap-headed-spec : {M : Type 1} → statement M
-gap-headed-spec =
-    tie.close (tie.spec gap-flaw-requires returns add-gap-skip gap-skip-requires returns-2)
+gap-headed-spec = tie.close (tie.spec (search needs) returns add-gap-skip (search needs) returns-2)

@@ -6,9 +6,6 @@ use borrow.Author.Needs.{needs}
 use Rattle.opening.proofs.gap_skip.Statement.{statement}
 use Rattle.opening.proofs.gap_skip.Tie as tie
 
-gap-next-requires : tie.Need-gap-next-requires
-gap-next-requires c κs = search needs
-
 returns : tie.Need-returns
 unfolding lift pick
 returns c = λ f. simp (le-leb _ _ (c .before .if1 .taken)) (c .gap-next .ensures f)
@@ -18,4 +15,4 @@ unfolding lift pick
 returns-2 c = λ f. simp (lt-leb _ _ (c .if1 .left))
 
 pub gap-skip-spec : {M : Type 1} → statement M
-gap-skip-spec = tie.close (tie.spec gap-next-requires returns returns-2)
+gap-skip-spec = tie.close (tie.spec (search needs) returns returns-2)

@@ -11,23 +11,14 @@ use borrow.Author.Needs.{needs}
 use Rattle.opening.proofs.opening_begin.Statement.{statement}
 use Rattle.opening.proofs.opening_begin.Tie as tie
 
-add-end : tie.Need-add-end
-add-end c = search needs
-
 returns : tie.Need-returns
 unfolding beginOpening lift pick
 returns c = λ brand f. simp (eq-eqb _ _ (c .if1 .taken))
-
-index-begin-requires : tie.Need-index-begin-requires
-index-begin-requires c κs = search needs
 
 returns-2 : tie.Need-returns-2
 unfolding beginOpening lift pick
 returns-2 c = λ brand f.
     simp (c .index-begin .ensures, ne-eqb _ _ (c .before .before .before .if1 .left), eq-eqb _ _ (c .before .if2 .taken))
-
-opening-skip-requires : tie.Need-opening-skip-requires
-opening-skip-requires c κs = search needs
 
 returns-3 : tie.Need-returns-3
 returns-3 c =
@@ -39,6 +30,4 @@ returns-3 c =
     ∙ ap (bodyOpening brand (a .branded) _) (skipped _ f _ (test1 .if1 .left) (test2 .if2 .left))
 
 pub opening-begin-spec : {M : Type 1} → statement M
-opening-begin-spec =
-    tie.close
-    (tie.spec add-end returns index-begin-requires returns-2 opening-skip-requires returns-3)
+opening-begin-spec = tie.close (tie.spec (search needs) returns (search needs) returns-2 (search needs) returns-3)

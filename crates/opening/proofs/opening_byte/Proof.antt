@@ -11,24 +11,12 @@ use borrow.Author.Needs.{needs}
 use Rattle.opening.proofs.opening_byte.Statement.{statement}
 use Rattle.opening.proofs.opening_byte.Tie as tie
 
-enum-known-s : tie.Need-enum-known-s
-enum-known-s c = search needs
-
 head-byte-requires : tie.Need-head-byte-requires
 unfolding openingBounds
 head-byte-requires c κs =
     let arm = c .before in
     let asked = arm .before .before .before .pre in
     (subst (λ (q : OpeningBoxes). Within (openingBounds q)) (arm .s .given .1) (asked .0), asked .1)
-
-add-opening-head : tie.Need-add-opening-head
-add-opening-head c = search needs
-
-opening-head-requires : tie.Need-opening-head-requires
-opening-head-requires c κs = search needs
-
-enum-known-s-2 : tie.Need-enum-known-s-2
-enum-known-s-2 c = search needs
 
 body-byte-requires : tie.Need-body-byte-requires
 unfolding openingBounds
@@ -51,9 +39,6 @@ returns c =
     ∙ ap (headOpening (a .brand) _ (a .n + 1)) (headed .head-byte .ensures (flowOf leaves at last _ table))
     ∙ opening-head-step _ _ _ _ _ _)
 
-same-length : tie.Need-same-length
-same-length c = search needs
-
 returns-2 : tie.Need-returns-2
 returns-2 c =
     let stepped = c .before .before in
@@ -63,13 +48,5 @@ returns-2 c =
 pub opening-byte-spec : {M : Type 1} → statement M
 opening-byte-spec =
     tie.close
-    (tie.spec
-    enum-known-s
-    head-byte-requires
-    add-opening-head
-    opening-head-requires
-    enum-known-s-2
-    body-byte-requires
-    returns
-    same-length
-    returns-2)
+    (tie.spec (search needs) head-byte-requires (search needs) (search needs) (search needs) body-byte-requires returns
+    (search needs) returns-2)

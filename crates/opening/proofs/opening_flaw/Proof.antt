@@ -5,17 +5,11 @@ use borrow.Author.Needs.{needs}
 use Rattle.opening.proofs.opening_flaw.Statement.{statement}
 use Rattle.opening.proofs.opening_flaw.Tie as tie
 
-size-flaw-requires : tie.Need-size-flaw-requires
-size-flaw-requires c κs = search needs
-
 returns : tie.Need-returns
 returns c =
     let sized = c .before in
     let a = sized .before .args in
     opening-size (a .branded) (a .h) _ (sized .size-flaw .ensures) (c .if1 .taken)
-
-length-flaw-requires : tie.Need-length-flaw-requires
-length-flaw-requires c κs = search needs
 
 returns-2 : tie.Need-returns-2
 returns-2 c =
@@ -24,9 +18,6 @@ returns-2 c =
     let sized = test .before in
     let a = sized .before .args in
     opening-length (a .branded) (a .h) _ _ (sized .size-flaw .ensures) (test .if1 .left) (measured .length-flaw .ensures) (c .if2 .taken)
-
-misplaced-requires : tie.Need-misplaced-requires
-misplaced-requires c κs = search needs
 
 returns-3 : tie.Need-returns-3
 returns-3 c =
@@ -80,13 +71,4 @@ returns-6 c =
 pub opening-flaw-spec : {M : Type 1} → statement M
 opening-flaw-spec =
     tie.close
-    (tie.spec
-    size-flaw-requires
-    returns
-    length-flaw-requires
-    returns-2
-    misplaced-requires
-    returns-3
-    returns-4
-    returns-5
-    returns-6)
+    (tie.spec (search needs) returns (search needs) returns-2 (search needs) returns-3 returns-4 returns-5 returns-6)

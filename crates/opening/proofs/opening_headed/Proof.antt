@@ -7,9 +7,6 @@ use borrow.Author.Needs.{needs}
 use Rattle.opening.proofs.opening_headed.Statement.{statement}
 use Rattle.opening.proofs.opening_headed.Tie as tie
 
-opening-flaw-requires : tie.Need-opening-flaw-requires
-opening-flaw-requires c κs = search needs
-
 returns : tie.Need-returns
 returns c = λ brand f. opening-refused brand _ _ _ _ f (c .before .opening-flaw .ensures) (c .if1 .taken)
 
@@ -20,5 +17,4 @@ returns-2 : tie.Need-returns-2
 returns-2 c = λ brand f. c .opening-begin .ensures brand f ∙ opening-begun brand _ _ _ _ f (c .before .before .opening-flaw .ensures) (c .before .if1 .left)
 
 pub opening-headed-spec : {M : Type 1} → statement M
-opening-headed-spec =
-    tie.close (tie.spec opening-flaw-requires returns opening-begin-requires returns-2)
+opening-headed-spec = tie.close (tie.spec (search needs) returns opening-begin-requires returns-2)

@@ -11,9 +11,6 @@ use borrow.Author.Needs.{needs}
 use Rattle.opening.proofs.opening_skip.Statement.{statement}
 use Rattle.opening.proofs.opening_skip.Tie as tie
 
-opening-next-requires : tie.Need-opening-next-requires
-opening-next-requires c κs = search needs
-
 returns : tie.Need-returns
 unfolding lift goOn closeOpening pick unless
 returns c = λ brand f. ap (viewOpening f) (c .opening-next .ensures) ∙ simp (le-leb _ _ (c .before .if1 .taken))
@@ -23,4 +20,4 @@ unfolding lift pick
 returns-2 c = λ brand f. simp (lt-leb _ _ (c .if1 .left))
 
 pub opening-skip-spec : {M : Type 1} → statement M
-opening-skip-spec = tie.close (tie.spec opening-next-requires returns returns-2)
+opening-skip-spec = tie.close (tie.spec (search needs) returns returns-2)

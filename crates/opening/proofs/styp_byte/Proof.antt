@@ -9,15 +9,6 @@ use borrow.Author.Needs.{needs}
 use Rattle.opening.proofs.styp_byte.Statement.{statement}
 use Rattle.opening.proofs.styp_byte.Tie as tie
 
-spelled-requires : tie.Need-spelled-requires
-spelled-requires c κs = search needs
-
-add-styp-end : tie.Need-add-styp-end
-add-styp-end c = search needs
-
-styp-end-requires : tie.Need-styp-end-requires
-styp-end-requires c κs = search needs
-
 returns : tie.Need-returns
 returns c =
     let test = c .before in
@@ -26,9 +17,6 @@ returns c =
     λ f.
     c .styp-end .ensures f
     ∙ rw (spelt .spelled .ensures) (ap (bodyOpening (a .brand) (a .branded) (a .n + 1)) (styp-last _ (a .branded) f _ _ _ _ _ _ _ (test .if1 .taken)))
-
-sub-t13 : tie.Need-sub-t13
-sub-t13 c = search needs
 
 returns-2 : tie.Need-returns-2
 unfolding lift
@@ -39,5 +27,4 @@ returns-2 c =
     rw (spelt .spelled .ensures) (ap (bodyOpening (a .brand) (a .branded) (a .n + 1)) (styp-more (a .brand) (a .branded) f (a .n) _ _ _ _ _ _ (c .if1 .left)))
 
 pub styp-byte-spec : {M : Type 1} → statement M
-styp-byte-spec =
-    tie.close (tie.spec spelled-requires add-styp-end styp-end-requires returns sub-t13 returns-2)
+styp-byte-spec = tie.close (tie.spec (search needs) (search needs) (search needs) returns (search needs) returns-2)

@@ -7,26 +7,11 @@ use borrow.Author.Needs.{needs}
 use Rattle.stage.proofs.entry_stage.Statement.{statement}
 use Rattle.stage.proofs.entry_stage.Tie as tie
 
-read-back-requires : tie.Need-read-back-requires
-read-back-requires c κs = search needs
-
-enum-known-read : tie.Need-enum-known-read
-enum-known-read c = search needs
-
-enum-told : tie.Need-enum-told
-enum-told c = search needs
-
-same-length : tie.Need-same-length
-same-length c = search needs
-
 returns : tie.Need-returns
 returns c =
     let back = c .before .before in
     let a = back .before .before .before .before .args in
     entry-altered (a .top) (a .ls) (flowing (a .r) (a .work .now) (a .table .now)) (a .n) (a .b) _ (back .read-back .ensures) (c .enum-told .given .1)
-
-took-entry-requires : tie.Need-took-entry-requires
-took-entry-requires c κs = search needs
 
 slot-byte-requires : tie.Need-slot-byte-requires
 slot-byte-requires c κs =
@@ -39,12 +24,6 @@ slot-byte-requires c κs =
       d .pre .2,
       entry-until (a .top) (a .ls) (flowing (a .r) (a .work .now) (a .table .now)) (a .n) (a .b) _ (back .read-back .ensures) _ _ (arm .read .given .1),
     )
-
-same-length-2 : tie.Need-same-length-2
-same-length-2 c = search needs
-
-same-length-3 : tie.Need-same-length-3
-same-length-3 c = search needs
 
 returns-2 : tie.Need-returns-2
 returns-2 c =
@@ -60,14 +39,5 @@ returns-2 c =
 pub entry-stage-spec : {M : Type 1} → statement M
 entry-stage-spec =
     tie.close
-    (tie.spec
-    read-back-requires
-    enum-known-read
-    enum-told
-    same-length
-    returns
-    took-entry-requires
-    slot-byte-requires
-    same-length-2
-    same-length-3
-    returns-2)
+    (tie.spec (λ c κs. search needs) (search needs) (search needs) (search needs) returns (λ c κs. search needs) slot-byte-requires
+    (search needs) (search needs) returns-2)

@@ -7,12 +7,6 @@ use borrow.Author.Needs.{needs}
 use Rattle.stage.proofs.gap_stage.Statement.{statement}
 use Rattle.stage.proofs.gap_stage.Tie as tie
 
-gap-byte-requires : tie.Need-gap-byte-requires
-gap-byte-requires c κs = search needs
-
-gap-after-requires : tie.Need-gap-after-requires
-gap-after-requires c κs = search needs
-
 returns : tie.Need-returns
 returns c =
     let stepped = c .before in
@@ -22,4 +16,4 @@ returns c =
     ∙ gap-step (a .top) (a .level) (a .end) _ _ _ _
 
 pub gap-stage-spec : {M : Type 1} → statement M
-gap-stage-spec = tie.close (tie.spec gap-byte-requires gap-after-requires returns)
+gap-stage-spec = tie.close (tie.spec (λ c κs. search needs) (search needs) returns)

@@ -4,21 +4,12 @@ use borrow.Author.Needs.{needs}
 use Rattle.stage.proofs.inner_stage.Statement.{statement}
 use Rattle.stage.proofs.inner_stage.Tie as tie
 
-depth-requires : tie.Need-depth-requires
-depth-requires c κs = search needs
-
 inner-byte-requires : tie.Need-inner-byte-requires
 inner-byte-requires c κs =
     let deep = c .before in
     let start = deep .before .before in
     let a = start .args in
     (inner-within (a .ls) _ (a .s) (deep .depth .ensures) (start .pre .3), start .pre .2, start .pre .0, start .pre .1)
-
-inner-after-requires : tie.Need-inner-after-requires
-inner-after-requires c κs = search needs
-
-same-length : tie.Need-same-length
-same-length c = search needs
 
 returns : tie.Need-returns
 returns c =
@@ -29,6 +20,4 @@ returns c =
     (stepped .inner-byte .ensures)
 
 pub inner-stage-spec : {M : Type 1} → statement M
-inner-stage-spec =
-    tie.close
-    (tie.spec depth-requires inner-byte-requires inner-after-requires same-length returns)
+inner-stage-spec = tie.close (tie.spec (search needs) inner-byte-requires (search needs) (search needs) returns)

@@ -6,21 +6,6 @@ use borrow.Author.Needs.{needs}
 use Rattle.stage.proofs.leaf_stage.Statement.{statement}
 use Rattle.stage.proofs.leaf_stage.Tie as tie
 
-no-room-requires : tie.Need-no-room-requires
-no-room-requires c κs = search needs
-
-leaf-byte-requires : tie.Need-leaf-byte-requires
-leaf-byte-requires c κs = search needs
-
-record-after-requires : tie.Need-record-after-requires
-record-after-requires c κs = search needs
-
-leaf-after-requires : tie.Need-leaf-after-requires
-leaf-after-requires c κs = search needs
-
-same-length : tie.Need-same-length
-same-length c = search needs
-
 returns : tie.Need-returns
 returns c =
     let at-record-after = c .before .before .before in
@@ -34,10 +19,4 @@ returns c =
 pub leaf-stage-spec : {M : Type 1} → statement M
 leaf-stage-spec =
     tie.close
-    (tie.spec
-    no-room-requires
-    leaf-byte-requires
-    record-after-requires
-    leaf-after-requires
-    same-length
-    returns)
+    (tie.spec (search needs) (λ c κs. search needs) (search needs) (search needs) (search needs) returns)

@@ -9,20 +9,11 @@ use borrow.Author.Needs.{needs}
 use Rattle.stage.proofs.opening_stage.Statement.{statement}
 use Rattle.stage.proofs.opening_stage.Tie as tie
 
-opening-byte-requires : tie.Need-opening-byte-requires
-opening-byte-requires c κs = search needs
-
-add-opening-after : tie.Need-add-opening-after
-add-opening-after c = search needs
-
 opening-after-requires : tie.Need-opening-after-requires
 opening-after-requires c κs =
     let stepped = c .before .before in
     let a = stepped .before .before .before .args in
     ends-in (a .brand) (a .s) _ _ (a .n) (a .b) (stepped .opening-byte .result) (stepped .opening-byte .ensures 0 0 0 [])
-
-same-length : tie.Need-same-length
-same-length c = search needs
 
 returns : tie.Need-returns
 returns c =
@@ -31,6 +22,4 @@ returns c =
     λ table. c .opening-after .ensures _ table ∙ ap (liftOpening (a .brand) (a .n + 1)) (stepped .opening-byte .ensures _ _ _ table) ∙ opening-step _ _ _ _ _
 
 pub opening-stage-spec : {M : Type 1} → statement M
-opening-stage-spec =
-    tie.close
-    (tie.spec opening-byte-requires add-opening-after opening-after-requires same-length returns)
+opening-stage-spec = tie.close (tie.spec (λ c κs. search needs) (search needs) opening-after-requires (search needs) returns)

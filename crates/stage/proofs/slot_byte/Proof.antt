@@ -13,9 +13,6 @@ inner-stage-requires c κs =
     let a = start .args in
     (start .pre .0, start .pre .1, start .pre .3, inner-first (a .ls))
 
-same-length : tie.Need-same-length
-same-length c = search needs
-
 returns : tie.Need-returns
 returns c =
     let stepped = c .before .before in
@@ -30,9 +27,6 @@ leaf-stage-requires c κs =
     let a = start .args in
     (start .pre .0, start .pre .2, leaf-first (a .r .last))
 
-same-length-2 : tie.Need-same-length-2
-same-length-2 c = search needs
-
 returns-2 : tie.Need-returns-2
 returns-2 c =
     let stepped = c .before .before in
@@ -43,4 +37,4 @@ returns-2 c =
 pub slot-byte-spec : {M : Type 1} → statement M
 slot-byte-spec =
     tie.close
-    (tie.spec inner-stage-requires same-length returns leaf-stage-requires same-length-2 returns-2)
+    (tie.spec inner-stage-requires (search needs) returns leaf-stage-requires (search needs) returns-2)

@@ -6,18 +6,12 @@ use borrow.Author.Needs.{needs}
 use Rattle.stage.proofs.stage_byte.Statement.{statement}
 use Rattle.stage.proofs.stage_byte.Tie as tie
 
-enum-known-s : tie.Need-enum-known-s
-enum-known-s c = search needs
-
 opening-stage-requires : tie.Need-opening-stage-requires
 opening-stage-requires c κs =
     let arm = c .before .before in
     let start = arm .before .before .before .before in
     let a = start .args in
     (start .pre .0, start .pre .1, opening-within (a .s) (a .r .now) _ _ (arm .s .given .1) (start .pre .3))
-
-enum-known-s-2 : tie.Need-enum-known-s-2
-enum-known-s-2 c = search needs
 
 gap-stage-requires : tie.Need-gap-stage-requires
 gap-stage-requires c κs =
@@ -26,18 +20,12 @@ gap-stage-requires c κs =
     let a = start .args in
     (start .pre .0, gap-within (a .s) (a .r .now) _ _ _ _ (arm .s2 .given .1) (start .pre .3))
 
-enum-known-s-3 : tie.Need-enum-known-s-3
-enum-known-s-3 c = search needs
-
 entry-stage-requires : tie.Need-entry-stage-requires
 entry-stage-requires c κs =
     let arm = c .before .before .before in
     let start = arm .before .before .before .before in
     let a = start .args in
     let v = entry-within (a .s) (a .r .now) _ _ (arm .s3 .given .1) (start .pre .3) in (start .pre .0, start .pre .1, start .pre .2, v .0, v .1)
-
-enum-known-s-4 : tie.Need-enum-known-s-4
-enum-known-s-4 c = search needs
 
 leaf-stage-requires : tie.Need-leaf-stage-requires
 leaf-stage-requires c κs =
@@ -46,18 +34,12 @@ leaf-stage-requires c κs =
     let a = start .args in
     (start .pre .0, start .pre .2, leaf-within (a .s) (a .r .now) _ _ _ _ (arm .s4 .given .1) (start .pre .3))
 
-enum-known-s-5 : tie.Need-enum-known-s-5
-enum-known-s-5 c = search needs
-
 inner-stage-requires : tie.Need-inner-stage-requires
 inner-stage-requires c κs =
     let arm = c .before .before in
     let start = arm .before .before .before .before in
     let a = start .args in
     let v = inner-around (a .s) (a .r .now) _ _ _ _ (arm .s5 .given .1) (start .pre .3) in (start .pre .0, start .pre .1, v .0, v .1)
-
-same-length : tie.Need-same-length
-same-length c = search needs
 
 returns : tie.Need-returns
 returns c =
@@ -72,12 +54,6 @@ returns-2 c =
     let a = arm .before .before .before .before .args in
     stage-as (a .s) _ (flowing (a .r) (a .work .now) (a .table .now)) (a .n) (a .b) _ (arm .s2 .given .1) (c .gap-stage .ensures (a .work .now) (a .table .now))
 
-same-length-2 : tie.Need-same-length-2
-same-length-2 c = search needs
-
-same-length-3 : tie.Need-same-length-3
-same-length-3 c = search needs
-
 returns-3 : tie.Need-returns-3
 returns-3 c =
     let stepped = c .before .before .before .before in
@@ -85,18 +61,12 @@ returns-3 c =
     let a = arm .before .before .before .before .args in
     stage-as (a .s) _ (flowing (a .r) (a .work .now) (a .table .now)) (a .n) (a .b) _ (arm .s3 .given .1) (stepped .entry-stage .ensures)
 
-same-length-4 : tie.Need-same-length-4
-same-length-4 c = search needs
-
 returns-4 : tie.Need-returns-4
 returns-4 c =
     let stepped = c .before .before in
     let arm = stepped .before .before .before in
     let a = arm .before .before .before .before .args in
     stage-as (a .s) _ (flowing (a .r) (a .work .now) (a .table .now)) (a .n) (a .b) _ (arm .s4 .given .1) (stepped .leaf-stage .ensures (a .work .now))
-
-same-length-5 : tie.Need-same-length-5
-same-length-5 c = search needs
 
 returns-5 : tie.Need-returns-5
 returns-5 c =
@@ -108,24 +78,6 @@ returns-5 c =
 pub stage-byte-spec : {M : Type 1} → statement M
 stage-byte-spec =
     tie.close
-    (tie.spec
-    enum-known-s
-    opening-stage-requires
-    enum-known-s-2
-    gap-stage-requires
-    enum-known-s-3
-    entry-stage-requires
-    enum-known-s-4
-    leaf-stage-requires
-    enum-known-s-5
-    inner-stage-requires
-    same-length
-    returns
-    returns-2
-    same-length-2
-    same-length-3
-    returns-3
-    same-length-4
-    returns-4
-    same-length-5
-    returns-5)
+    (tie.spec (search needs) opening-stage-requires (search needs) gap-stage-requires (search needs)
+    entry-stage-requires (search needs) leaf-stage-requires (search needs) inner-stage-requires (search needs) returns
+    returns-2 (search needs) (search needs) returns-3 (search needs) returns-4 (search needs) returns-5)

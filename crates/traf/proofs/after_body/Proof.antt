@@ -12,18 +12,6 @@ use borrow.Author.Needs.{needs}
 use Rattle.traf.proofs.after_body.Statement.{statement}
 use Rattle.traf.proofs.after_body.Tie as tie
 
-enum-known-r : tie.Need-enum-known-r
-enum-known-r c = search needs
-
-enum-told : tie.Need-enum-told
-enum-told c = search needs
-
-refused-body-requires : tie.Need-refused-body-requires
-refused-body-requires c κs = search needs
-
-worse-requires : tie.Need-worse-requires
-worse-requires c κs = search needs
-
 returns : tie.Need-returns
 unfolding lift
 returns c =
@@ -34,15 +22,6 @@ returns c =
     λ id f. ap (λ (x : Refusal). bad x (left f))
     (c .worse .ensures ∙ ap (λ (x : Refusal). lowest x (besideTraf (a .span) (a .so .track) (a .n))) (at-refused-body .refused-body .ensures ∙ ap refusalBody e))
     ∙ sym (ap (λ (q : BodyStep). afterBody id (a .span) (a .so) (a .n) (viewBody f q)) e)
-
-enum-known-body : tie.Need-enum-known-body
-enum-known-body c = search needs
-
-enum-known-body-2 : tie.Need-enum-known-body-2
-enum-known-body-2 c = search needs
-
-box-end-requires : tie.Need-box-end-requires
-box-end-requires c κs = search needs
 
 returns-2 : tie.Need-returns-2
 unfolding lift
@@ -66,14 +45,5 @@ returns-3 c =
 pub after-body-spec : {M : Type 1} → statement M
 after-body-spec =
     tie.close
-    (tie.spec
-    enum-known-r
-    enum-told
-    refused-body-requires
-    worse-requires
-    returns
-    enum-known-body
-    enum-known-body-2
-    box-end-requires
-    returns-2
-    returns-3)
+    (tie.spec (search needs) (search needs) (search needs) (search needs) returns (search needs) (search needs)
+    (search needs) returns-2 returns-3)

@@ -12,18 +12,6 @@ use borrow.Author.Needs.{needs}
 use Rattle.traf.proofs.after_head.Statement.{statement}
 use Rattle.traf.proofs.after_head.Tie as tie
 
-enum-known-r : tie.Need-enum-known-r
-enum-known-r c = search needs
-
-enum-told : tie.Need-enum-told
-enum-told c = search needs
-
-refused-head-requires : tie.Need-refused-head-requires
-refused-head-requires c κs = search needs
-
-worse-requires : tie.Need-worse-requires
-worse-requires c κs = search needs
-
 returns : tie.Need-returns
 unfolding lift
 returns c =
@@ -34,15 +22,6 @@ returns c =
     λ id f. ap (λ (x : Refusal). bad x (left f))
     (c .worse .ensures ∙ ap (λ (x : Refusal). lowest x (besideTraf (a .span) (a .so .track) (a .n))) (at-refused-head .refused-head .ensures ∙ ap refusalHead e))
     ∙ sym (ap (λ (q : HeadStep). afterHead id (a .span) (a .so) (a .n) (viewHead f q)) e)
-
-enum-known-head : tie.Need-enum-known-head
-enum-known-head c = search needs
-
-enum-known-head-2 : tie.Need-enum-known-head-2
-enum-known-head-2 c = search needs
-
-after-header-requires : tie.Need-after-header-requires
-after-header-requires c κs = search needs
 
 returns-2 : tie.Need-returns-2
 unfolding lift
@@ -66,14 +45,5 @@ returns-3 c =
 pub after-head-spec : {M : Type 1} → statement M
 after-head-spec =
     tie.close
-    (tie.spec
-    enum-known-r
-    enum-told
-    refused-head-requires
-    worse-requires
-    returns
-    enum-known-head
-    enum-known-head-2
-    after-header-requires
-    returns-2
-    returns-3)
+    (tie.spec (search needs) (search needs) (search needs) (search needs) returns (search needs) (search needs)
+    (search needs) returns-2 returns-3)

@@ -13,12 +13,6 @@ use borrow.Author.Needs.{needs}
 use Rattle.traf.proofs.after_header.Statement.{statement}
 use Rattle.traf.proofs.after_header.Tie as tie
 
-box-flaw-requires : tie.Need-box-flaw-requires
-box-flaw-requires c κs = search needs
-
-worse-requires : tie.Need-worse-requires
-worse-requires c κs = search needs
-
 returns : tie.Need-returns
 returns c =
     let test = c .before in
@@ -33,9 +27,6 @@ body-begin-requires c κs =
     let a = c .before .before .args in
     omega (arith, all-right (a .so .track) (a .h) (a .span .end) (sym (c .before .box-flaw .ensures) ∙ c .if1 .left))
 
-after-body-requires : tie.Need-after-body-requires
-after-body-requires c κs = search needs
-
 returns-2 : tie.Need-returns-2
 returns-2 c =
     let at-body-begin = c .before in
@@ -49,10 +40,4 @@ returns-2 c =
 pub after-header-spec : {M : Type 1} → statement M
 after-header-spec =
     tie.close
-    (tie.spec
-    box-flaw-requires
-    worse-requires
-    returns
-    body-begin-requires
-    after-body-requires
-    returns-2)
+    (tie.spec (search needs) (search needs) returns body-begin-requires (search needs) returns-2)

@@ -8,9 +8,6 @@ use borrow.Author.Needs.{needs}
 use Rattle.traf.proofs.body_begin.Statement.{statement}
 use Rattle.traf.proofs.body_begin.Tie as tie
 
-add-end : tie.Need-add-end
-add-end c = search needs
-
 returns : tie.Need-returns
 unfolding beginTraf pick
 returns c = λ f. simp (eq-eqb _ _ (c .if1 .taken))
@@ -19,9 +16,6 @@ returns-2 : tie.Need-returns-2
 unfolding beginTraf pick
 returns-2 c = λ f. simp (ne-eqb _ _ (c .before .before .if1 .left), eq-eqb _ _ (c .if2 .taken))
 
-skip-to-requires : tie.Need-skip-to-requires
-skip-to-requires c κs = search needs
-
 returns-3 : tie.Need-returns-3
 unfolding beginTraf
 returns-3 c =
@@ -29,4 +23,4 @@ returns-3 c =
     ∙ sym (pick-no _ _ _ (ne-eqb _ _ (c .before .before .before .if1 .left)) ∙ pick-no _ _ _ (ne-eqb _ _ (c .before .if2 .left)))
 
 pub body-begin-spec : {M : Type 1} → statement M
-body-begin-spec = tie.close (tie.spec add-end returns returns-2 skip-to-requires returns-3)
+body-begin-spec = tie.close (tie.spec (search needs) returns returns-2 (search needs) returns-3)

@@ -9,27 +9,6 @@ use borrow.Author.Needs.{needs}
 use Rattle.traf.proofs.body_byte.Statement.{statement}
 use Rattle.traf.proofs.body_byte.Tie as tie
 
-enum-known-s : tie.Need-enum-known-s
-enum-known-s c = search needs
-
-add-skip-to : tie.Need-add-skip-to
-add-skip-to c = search needs
-
-skip-to-requires : tie.Need-skip-to-requires
-skip-to-requires c κs = search needs
-
-enum-known-s-2 : tie.Need-enum-known-s-2
-enum-known-s-2 c = search needs
-
-add-rest-to : tie.Need-add-rest-to
-add-rest-to c = search needs
-
-rest-to-requires : tie.Need-rest-to-requires
-rest-to-requires c κs = search needs
-
-enum-known-s-3 : tie.Need-enum-known-s-3
-enum-known-s-3 c = search needs
-
 field-byte-requires : tie.Need-field-byte-requires
 field-byte-requires c κs =
     let arm = c .before in
@@ -64,15 +43,5 @@ returns-3 c =
 pub body-byte-spec : {M : Type 1} → statement M
 body-byte-spec =
     tie.close
-    (tie.spec
-    enum-known-s
-    add-skip-to
-    skip-to-requires
-    enum-known-s-2
-    add-rest-to
-    rest-to-requires
-    enum-known-s-3
-    field-byte-requires
-    returns
-    returns-2
-    returns-3)
+    (tie.spec (search needs) (search needs) (search needs) (search needs) (search needs) (search needs) (search needs)
+    field-byte-requires returns returns-2 returns-3)

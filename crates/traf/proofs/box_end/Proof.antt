@@ -8,24 +8,6 @@ use borrow.Author.Needs.{needs}
 use Rattle.traf.proofs.box_end.Statement.{statement}
 use Rattle.traf.proofs.box_end.Tie as tie
 
-enum-told : tie.Need-enum-told
-enum-told c = search needs
-
-go-on-requires : tie.Need-go-on-requires
-go-on-requires c κs = search needs
-
-enum-known-g : tie.Need-enum-known-g
-enum-known-g c = search needs
-
-go-on-requires-2 : tie.Need-go-on-requires-2
-go-on-requires-2 c κs = search needs
-
-enum-known-g-2 : tie.Need-enum-known-g-2
-enum-known-g-2 c = search needs
-
-time-end-requires : tie.Need-time-end-requires
-time-end-requires c κs = search needs
-
 returns : tie.Need-returns
 unfolding trafNow fallFaults
 returns c =
@@ -55,13 +37,5 @@ returns-3 c =
 pub box-end-spec : {M : Type 1} → statement M
 box-end-spec =
     tie.close
-    (tie.spec
-    enum-told
-    go-on-requires
-    enum-known-g
-    go-on-requires-2
-    enum-known-g-2
-    time-end-requires
-    returns
-    returns-2
-    returns-3)
+    (tie.spec (search needs) (search needs) (search needs) (search needs) (search needs) (search needs) returns
+    returns-2 returns-3)

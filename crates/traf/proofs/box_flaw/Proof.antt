@@ -9,9 +9,6 @@ use borrow.Author.Needs.{needs}
 use Rattle.traf.proofs.box_flaw.Statement.{statement}
 use Rattle.traf.proofs.box_flaw.Tie as tie
 
-size-flaw-requires : tie.Need-size-flaw-requires
-size-flaw-requires c κs = search needs
-
 returns : tie.Need-returns
 returns c =
     let sized = c .before in
@@ -34,4 +31,4 @@ returns-2 c =
     ∙ sym (sizes-first (a .t) (a .h) (a .end) ∙ pick-yes _ _ _ (eq-eqb _ _ (sym (sized .size-flaw .ensures) ∙ test .if1 .left)))
 
 pub box-flaw-spec : {M : Type 1} → statement M
-box-flaw-spec = tie.close (tie.spec size-flaw-requires returns traf-flaw-requires returns-2)
+box-flaw-spec = tie.close (tie.spec (search needs) returns traf-flaw-requires returns-2)

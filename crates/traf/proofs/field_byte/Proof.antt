@@ -14,12 +14,6 @@ spelled-requires c κs =
     let a = c .args in
     field-small (a .p) (a .more) (a .acc) (c .pre .1)
 
-add-field-end : tie.Need-add-field-end
-add-field-end c = search needs
-
-field-end-requires : tie.Need-field-end-requires
-field-end-requires c κs = search needs
-
 returns : tie.Need-returns
 returns c =
     let test = c .before in
@@ -29,9 +23,6 @@ returns c =
     ∙ ap (λ (v : ℕ). trafEnds (a .id) (a .t) (a .p) v f (a .n + 1)) (spelt .spelled .ensures)
     ∙ sym (field-last (a .id) (a .t) (a .p) f (a .n) (a .b) (a .more) (a .acc) (test .if1 .taken))
 
-sub-t11 : tie.Need-sub-t11
-sub-t11 c = search needs
-
 returns-2 : tie.Need-returns-2
 returns-2 c =
     let a = c .before .before .args in
@@ -39,6 +30,4 @@ returns-2 c =
     ∙ sym (field-more (a .id) (a .t) (a .p) f (a .n) (a .b) (a .more) (a .acc) (c .if1 .left))
 
 pub field-byte-spec : {M : Type 1} → statement M
-field-byte-spec =
-    tie.close
-    (tie.spec spelled-requires add-field-end field-end-requires returns sub-t11 returns-2)
+field-byte-spec = tie.close (tie.spec spelled-requires (search needs) (search needs) returns (search needs) returns-2)

@@ -13,33 +13,6 @@ use borrow.Author.Needs.{needs}
 use Rattle.traf.proofs.field_end.Statement.{statement}
 use Rattle.traf.proofs.field_end.Tie as tie
 
-enum-known-p : tie.Need-enum-known-p
-enum-known-p c = search needs
-
-enum-known-p-2 : tie.Need-enum-known-p-2
-enum-known-p-2 c = search needs
-
-rest-to-requires : tie.Need-rest-to-requires
-rest-to-requires c κs = search needs
-
-enum-known-p-3 : tie.Need-enum-known-p-3
-enum-known-p-3 c = search needs
-
-version-end-requires : tie.Need-version-end-requires
-version-end-requires c κs = search needs
-
-enum-known-p-4 : tie.Need-enum-known-p-4
-enum-known-p-4 c = search needs
-
-time-more-requires : tie.Need-time-more-requires
-time-more-requires c κs = search needs
-
-enum-known-p-5 : tie.Need-enum-known-p-5
-enum-known-p-5 c = search needs
-
-is-reference-requires : tie.Need-is-reference-requires
-is-reference-requires c κs = search needs
-
 returns : tie.Need-returns
 unfolding trafEnds
 returns c =
@@ -80,18 +53,5 @@ returns-5 c =
 pub field-end-spec : {M : Type 1} → statement M
 field-end-spec =
     tie.close
-    (tie.spec
-    enum-known-p
-    enum-known-p-2
-    rest-to-requires
-    enum-known-p-3
-    version-end-requires
-    enum-known-p-4
-    time-more-requires
-    enum-known-p-5
-    is-reference-requires
-    returns
-    returns-2
-    returns-3
-    returns-4
-    returns-5)
+    (tie.spec (search needs) (search needs) (search needs) (search needs) (search needs) (search needs) (search needs)
+    (search needs) (search needs) returns returns-2 returns-3 returns-4 returns-5)

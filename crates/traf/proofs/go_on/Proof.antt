@@ -15,9 +15,6 @@ returns : tie.Need-returns
 unfolding goOn trafNext unless pick
 returns c = λ id f. simp (ne-eqb _ _ (c .if1 .taken))
 
-is-timed-requires : tie.Need-is-timed-requires
-is-timed-requires c κs = search needs
-
 returns-2 : tie.Need-returns-2
 unfolding goOn trafNext unless pick
 returns-2 c =
@@ -36,4 +33,4 @@ returns-3 c =
     λ id f. simp (eq-eqb _ _ (test .if1 .left), lacks-one (a .span .pos) (a .so .track) (sym (at-is-timed .is-timed .ensures) ∙ c .if2 .left))
 
 pub go-on-spec : {M : Type 1} → statement M
-go-on-spec = tie.close (tie.spec returns is-timed-requires returns-2 returns-3)
+go-on-spec = tie.close (tie.spec returns (search needs) returns-2 returns-3)

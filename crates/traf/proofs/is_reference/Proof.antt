@@ -5,15 +5,6 @@ use borrow.Author.Needs.{needs}
 use Rattle.traf.proofs.is_reference.Statement.{statement}
 use Rattle.traf.proofs.is_reference.Tie as tie
 
-enum-told : tie.Need-enum-told
-enum-told c = search needs
-
-enum-known-t : tie.Need-enum-known-t
-enum-known-t c = search needs
-
-enum-told-2 : tie.Need-enum-told-2
-enum-told-2 c = search needs
-
 returns : tie.Need-returns
 unfolding reference
 returns c = sym (ap reference (c .enum-told .given .1))
@@ -27,5 +18,4 @@ unfolding reference
 returns-3 c = sym (ap reference (c .enum-told2 .given .1))
 
 pub is-reference-spec : {M : Type 1} → statement M
-is-reference-spec =
-    tie.close (tie.spec enum-told enum-known-t enum-told-2 returns returns-2 returns-3)
+is-reference-spec = tie.close (tie.spec (search needs) (search needs) (search needs) returns returns-2 returns-3)

@@ -5,12 +5,6 @@ use borrow.Author.Needs.{needs}
 use Rattle.traf.proofs.refused_body.Statement.{statement}
 use Rattle.traf.proofs.refused_body.Tie as tie
 
-enum-told : tie.Need-enum-told
-enum-told c = search needs
-
-enum-known-r : tie.Need-enum-known-r
-enum-known-r c = search needs
-
 returns : tie.Need-returns
 returns c = sym (ap refusalBody (c .enum-told .given .1))
 
@@ -18,4 +12,4 @@ returns-2 : tie.Need-returns-2
 returns-2 c = sym (ap refusalBody (c .before .r .given .1))
 
 pub refused-body-spec : {M : Type 1} → statement M
-refused-body-spec = tie.close (tie.spec enum-told enum-known-r returns returns-2)
+refused-body-spec = tie.close (tie.spec (search needs) (search needs) returns returns-2)

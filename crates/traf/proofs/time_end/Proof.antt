@@ -13,9 +13,6 @@ use borrow.Author.Needs.{needs}
 use Rattle.traf.proofs.time_end.Statement.{statement}
 use Rattle.traf.proofs.time_end.Tie as tie
 
-falls-requires : tie.Need-falls-requires
-falls-requires c κs = search needs
-
 returns : tie.Need-returns
 unfolding trafNow fallFaults shows
 returns c =
@@ -25,12 +22,6 @@ returns c =
     (ap (λ (t : Bool). goOn (trafBoxes id (a .span)) wrapTraf (trafNext (a .span) (trafNow (a .so) (timed (a .reference) (a .pos) (a .v))) (shows t 18 (a .pos)) (a .n)) f)
     (sym (at-falls .falls .ensures) ∙ c .if1 .taken)
     ∙ falling id (a .span) _ (a .pos) (a .n) f)
-
-with-time-requires : tie.Need-with-time-requires
-with-time-requires c κs = search needs
-
-go-on-requires : tie.Need-go-on-requires
-go-on-requires c κs = search needs
 
 returns-2 : tie.Need-returns-2
 unfolding trafNow fallFaults shows
@@ -45,5 +36,4 @@ returns-2 c =
     (sym (at-falls .falls .ensures) ∙ test .if1 .left))
 
 pub time-end-spec : {M : Type 1} → statement M
-time-end-spec =
-    tie.close (tie.spec falls-requires returns with-time-requires go-on-requires returns-2)
+time-end-spec = tie.close (tie.spec (search needs) returns (search needs) (search needs) returns-2)

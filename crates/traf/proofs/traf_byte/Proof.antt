@@ -14,9 +14,6 @@ use borrow.Author.Needs.{needs}
 use Rattle.traf.proofs.traf_byte.Statement.{statement}
 use Rattle.traf.proofs.traf_byte.Tie as tie
 
-enum-known-s : tie.Need-enum-known-s
-enum-known-s c = search needs
-
 head-byte-requires : tie.Need-head-byte-requires
 unfolding trafBounds
 head-byte-requires c κs =
@@ -24,27 +21,12 @@ head-byte-requires c κs =
     let asked = arm .before .before .pre in
     (subst (λ (q : TrafBoxes). Within (trafBounds q)) (arm .s .given .1) (asked .0), asked .1)
 
-add-after-head : tie.Need-add-after-head
-add-after-head c = search needs
-
-after-head-requires : tie.Need-after-head-requires
-after-head-requires c κs = search needs
-
-enum-known-s-2 : tie.Need-enum-known-s-2
-enum-known-s-2 c = search needs
-
 body-byte-requires : tie.Need-body-byte-requires
 unfolding trafBounds
 body-byte-requires c κs =
     let arm = c .before in
     let asked = arm .before .before .pre in
     (asked .1, subst (λ (q : TrafBoxes). Within (trafBounds q)) (arm .s2 .given .1) (asked .0))
-
-add-after-body : tie.Need-add-after-body
-add-after-body c = search needs
-
-after-body-requires : tie.Need-after-body-requires
-after-body-requires c κs = search needs
 
 returns : tie.Need-returns
 unfolding stepTraf stepBox
@@ -72,14 +54,5 @@ returns-2 c =
 pub traf-byte-spec : {M : Type 1} → statement M
 traf-byte-spec =
     tie.close
-    (tie.spec
-    enum-known-s
-    head-byte-requires
-    add-after-head
-    after-head-requires
-    enum-known-s-2
-    body-byte-requires
-    add-after-body
-    after-body-requires
-    returns
-    returns-2)
+    (tie.spec (search needs) head-byte-requires (search needs) (search needs) (search needs) body-byte-requires
+    (search needs) (search needs) returns returns-2)

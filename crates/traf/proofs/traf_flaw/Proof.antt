@@ -9,9 +9,6 @@ use borrow.Author.Needs.{needs}
 use Rattle.traf.proofs.traf_flaw.Statement.{statement}
 use Rattle.traf.proofs.traf_flaw.Tie as tie
 
-sub-body : tie.Need-sub-body
-sub-body c = search needs
-
 returns : tie.Need-returns
 unfolding pick
 returns c =
@@ -19,9 +16,6 @@ returns c =
     let a = test .before .before .before .args in
     sym (flaw-traf (a .t) (a .h)
     ∙ simp (eq-eqb _ _ (test .if1 .taken), lt-ltb _ _ (c .if2 .taken)))
-
-may-head-requires : tie.Need-may-head-requires
-may-head-requires c κs = search needs
 
 returns-2 : tie.Need-returns-2
 unfolding pick
@@ -62,9 +56,6 @@ returns-4 c =
     let a = test1 .before .before .before .args in
     sym (flaw-traf (a .t) (a .h)
     ∙ simp (ne-eqb _ _ (test1 .if1 .left), eq-eqb _ _ (test4 .if4 .taken), lt-ltb _ _ (c .if5 .taken)))
-
-may-time-requires : tie.Need-may-time-requires
-may-time-requires c κs = search needs
 
 returns-5 : tie.Need-returns-5
 unfolding pick
@@ -115,15 +106,5 @@ returns-8 c =
 pub traf-flaw-spec : {M : Type 1} → statement M
 traf-flaw-spec =
     tie.close
-    (tie.spec
-    sub-body
-    returns
-    may-head-requires
-    returns-2
-    returns-3
-    returns-4
-    may-time-requires
-    returns-5
-    returns-6
-    returns-7
-    returns-8)
+    (tie.spec (search needs) returns (search needs) returns-2 returns-3 returns-4 (search needs) returns-5 returns-6
+    returns-7 returns-8)

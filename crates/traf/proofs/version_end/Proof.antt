@@ -13,9 +13,6 @@ returns c =
     let a = c .before .args in
     λ id t f. simp (lt-ltb _ _ (c .if1 .taken), ne-eqb (a .v) 0 (λ e. omega (arith, c .if1 .taken)), ne-eqb (a .v) 1 (λ e. omega (arith, c .if1 .taken)))
 
-add-if3 : tie.Need-add-if3
-add-if3 c = search needs
-
 returns-2 : tie.Need-returns-2
 unfolding trafEnds tfdtVersionFaults unless shows lowest
 returns-2 c =
@@ -31,9 +28,6 @@ returns-3 c =
     let test1 = test2 .before in
     let a = test1 .before .args in
     λ id t f. simp (le-ltb _ _ (test1 .if1 .left), eq-eqb _ _ (test2 .if2 .taken), ne-eqb (a .v) 1 (λ e. omega (arith, test2 .if2 .taken)), eq-eqb _ _ (c .if3 .left))
-
-add-if4 : tie.Need-add-if4
-add-if4 c = search needs
 
 returns-4 : tie.Need-returns-4
 unfolding trafEnds tfdtVersionFaults unless shows lowest
@@ -52,5 +46,4 @@ returns-5 c =
     λ id t f. simp (le-ltb _ _ (test1 .if1 .left), ne-eqb _ _ (test2 .if2 .left), eq-eqb (a .v) 1 (omega (arith, test1 .if1 .left, test2 .if2 .left)), eq-eqb _ _ (c .if4 .left))
 
 pub version-end-spec : {M : Type 1} → statement M
-version-end-spec =
-    tie.close (tie.spec returns add-if3 returns-2 returns-3 add-if4 returns-4 returns-5)
+version-end-spec = tie.close (tie.spec returns (search needs) returns-2 returns-3 (search needs) returns-4 returns-5)

@@ -12,9 +12,6 @@ returns : tie.Need-returns
 unfolding pick lowest
 returns c = simp (ne-eqb _ _ (c .if1 .taken))
 
-is-timed-requires : tie.Need-is-timed-requires
-is-timed-requires c κs = search needs
-
 returns-2 : tie.Need-returns-2
 unfolding pick lowest
 returns-2 c =
@@ -42,4 +39,4 @@ returns-4 c =
     simp (eq-eqb _ _ (test1 .if1 .left), lacks-one (a .span .pos) (a .t) (sym (at-is-timed .is-timed .ensures) ∙ test2 .if2 .left), le-ltb _ _ (c .if3 .left))
 
 pub worse-spec : {M : Type 1} → statement M
-worse-spec = tie.close (tie.spec returns is-timed-requires returns-2 returns-3 returns-4)
+worse-spec = tie.close (tie.spec returns (search needs) returns-2 returns-3 returns-4)
