@@ -2,4 +2,4 @@ pub mod Picks
 pub mod Tests
 pub mod Options
 pub mod Bytes
-pub mod Put
+pub mod Outcomes

@@ -1,3 +1,4 @@
 pub mod Flaws
+pub mod Lists
 pub mod Steps
 pub mod OneOutcome

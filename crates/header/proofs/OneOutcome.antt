@@ -1,6 +1,7 @@
 -- The contracts of the functions that other crates call, as the check reads them: two outcomes that one allows coincide, and those that ask nothing say so.
-use mathlib.Core.Path.{_≡_, refl, sym, ap, _∙_}
+use mathlib.Core.Path.{_≡_, refl, sym, _∙_}
 use mathlib.Core.List.{[]}
+use Rattle.basics.proofs.Outcomes.{left-inverse-equal}
 use Rattle.basics.specs.Outcome.{Coincide, OneOutcome}
 use Rattle.machine.specs.Run.{Sub, go, done, bad}
 use Rattle.machine.specs.declared.Head.{Head}
@@ -19,8 +20,8 @@ use Rattle.header.proofs.head_byte.Kinds as byte-kinds
 use Rattle.header.proofs.head_byte.Reads as byte-stated
 use Rattle.header.proofs.size_flaw.Kinds as size-kinds
 use Rattle.header.proofs.size_flaw.Reads as size-stated
-use Rattle.header.proofs.length_flaw.Kinds as length-kinds
-use Rattle.header.proofs.length_flaw.Reads as length-stated
+use Rattle.header.proofs.header_flaw.Kinds as header-kinds
+use Rattle.header.proofs.header_flaw.Reads as header-stated
 
 -- the answer that a machine's answer is a view of
 abbrev seenHead : Sub Head Header Flow Left → HeadStep
@@ -33,16 +34,9 @@ seen-head f (heads.Taken (so.Going h)) = refl
 seen-head f (heads.Taken (so.Read h)) = refl
 seen-head f (heads.Bad x) = refl
 
--- answers that look alike while something flows are one
-head-seen : (f : Flow) (r r' : HeadStep) → viewHead f r ≡ viewHead f r' → r ≡ r'
-head-seen f r r' e = sym (seen-head f r) ∙ (ap seenHead e ∙ seen-head f r')
-
 -- of one answer to a byte: one refusal
 pub refused-head-once : OneOutcome 0 refused-kinds.ps refused-kinds.r refused-stated.Pre refused-stated.Post
-refused-head-once = record {
-  asks-nothing = λ κs given. tt;
-  outcomes-coincide = λ κs given r r' left left' p q. (p ∙ sym q, refl);
-}
+refused-head-once = record { asks-nothing = λ κs given. tt; outcomes-coincide = λ κs given r r' left left' p q. (p ∙ sym q, refl) }
 
 -- of one number so far and byte: one number
 pub spelled-once : Coincide 0 spelled-kinds.ps spelled-kinds.r spelled-stated.Post
@@ -52,18 +46,12 @@ spelled-once = λ κs given r r' left left' p q. (p ∙ sym q, refl)
 pub head-byte-once : Coincide 0 byte-kinds.ps byte-kinds.r byte-stated.Post
 head-byte-once = λ κs given r r' left left' p q.
     let f = flowOf 0 0 0 [] [] in
-    (head-seen f r r' (p f ∙ sym (q f)), refl)
+    (left-inverse-equal seenHead (seen-head f r) (seen-head f r') (p f ∙ sym (q f)), refl)
 
 -- of one container's end and header: one number
 pub size-flaw-once : OneOutcome 0 size-kinds.ps size-kinds.r size-stated.Pre size-stated.Post
-size-flaw-once = record {
-  asks-nothing = λ κs given. tt;
-  outcomes-coincide = λ κs given r r' left left' p q. (p ∙ sym q, refl);
-}
+size-flaw-once = record { asks-nothing = λ κs given. tt; outcomes-coincide = λ κs given r r' left left' p q. (p ∙ sym q, refl) }
 
--- of one header: one number
-pub length-flaw-once : OneOutcome 0 length-kinds.ps length-kinds.r length-stated.Pre length-stated.Post
-length-flaw-once = record {
-  asks-nothing = λ κs given. tt;
-  outcomes-coincide = λ κs given r r' left left' p q. (p ∙ sym q, refl);
-}
+-- of one container's end, header and other number: one number
+pub header-flaw-once : OneOutcome 0 header-kinds.ps header-kinds.r header-stated.Pre header-stated.Post
+header-flaw-once = record { asks-nothing = λ κs given. tt; outcomes-coincide = λ κs given r r' left left' p q. (p ∙ sym q, refl) }

@@ -1,6 +1,8 @@
 -- The code's answer to a byte of a header, with what flows, as a machine's answer: nothing of what flows changes in a header.
+use Prim.Native.Nat.{ℕ}
 use Rattle.machine.specs.Faults.{refusal}
-use Rattle.machine.specs.Run.{Sub, go, done, bad}
+use Rattle.machine.specs.Run.{Sub, go, done, bad, lift}
+use Rattle.machine.specs.Lists.{Box, inHead, Boxes, liftBody, liftBox, headed}
 use Rattle.machine.specs.declared.Head.{Head}
 use Rattle.machine.specs.declared.Header.{Header}
 use Rattle.machine.specs.declared.Refusal.{Refusal}
@@ -18,3 +20,14 @@ viewHead f (heads.Bad x) = bad x (left f)
 abbrev pub refusalHead : HeadStep → Refusal
 refusalHead (heads.Taken s) = refusal 0 0
 refusalHead (heads.Bad x) = x
+
+-- The answer of a box's body, of a header that was read, and of a byte of a header, in a list: `n` bytes up to the one at hand.
+module _ {A B R Q S : Type 0} (l : Boxes A B R Q Flow Left) (wrap : A → Box B → S) (a : A) (n : ℕ) where
+  abbrev pub afterBody : Sub B R Flow Left → Sub S Q Flow Left
+  afterBody r = liftBox l wrap a n (liftBody (l .box a) r)
+
+  abbrev pub afterHeader : Header → Flow → Sub S Q Flow Left
+  afterHeader h f = liftBox l wrap a n (headed (l .box a) h f n)
+
+  abbrev pub afterHead : Sub Head Header Flow Left → Sub S Q Flow Left
+  afterHead r = liftBox l wrap a n (lift inHead (λ h f. headed (l .box a) h f n) bad r)

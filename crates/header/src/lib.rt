@@ -1,6 +1,9 @@
 // The header of a box, one byte of it at a time, and what its size shows once it is read.
 ghost use mathlib.Core.Path.{_≡_};
+ghost use mathlib.Core.List.{_++_};
+ghost use lib.Dec.{eqb};
 ghost use Prim.Native.Nat.{_+_, _*_, _<_, _≤_};
+ghost use Rattle.basics.specs.Choose.{pick};
 ghost use Rattle.segment.specs.Constants.{limit};
 ghost use Rattle.machine.specs.Heads.{sizeFaults, sized, stepHead};
 ghost use Rattle.state.specs.Flow.{Flow, left};
@@ -210,7 +213,7 @@ fn body_length(h: Header) -> u64
 }
 
 // 6 where a `styp` or a `sidx` has no length that it may have, or 0.
-pub fn length_flaw(h: Header) -> u64
+fn length_flaw(h: Header) -> u64
     ensures { λ r. ⌜ r ≡ flawOf (topLengths h) ⌝ }
 {
     let long = body_length(h);
@@ -230,4 +233,21 @@ pub fn length_flaw(h: Header) -> u64
         return 0;
     }
     0
+}
+
+// The lowest number that a header shows: by its size, by its length, and else `other`, what its type shows.
+pub fn header_flaw(end: u64, h: Header, other: u64) -> u64
+    ensures { λ r. ⌜
+        r ≡ pick (eqb (flawOf (sizeFaults end h ++ topLengths h)) 0) other (flawOf (sizeFaults end h ++ topLengths h))
+        ⌝ }
+{
+    let size = size_flaw(end, h);
+    if size != 0 {
+        return size;
+    }
+    let length = length_flaw(h);
+    if length != 0 {
+        return length;
+    }
+    other
 }

@@ -2,6 +2,7 @@
 use Prim.Native.Nat.{ℕ}
 use mathlib.Core.Path.{_≡_, refl, sym, ap, _∙_}
 use mathlib.Core.List.{List, []}
+use Rattle.basics.proofs.Outcomes.{left-inverse-equal}
 use Rattle.basics.specs.Outcome.{Coincide, OneOutcome, after}
 use Rattle.machine.specs.Run.{Sub, go, done, bad}
 use Rattle.state.specs.declared.Sidx.{Sidx}
@@ -32,23 +33,13 @@ seen-index f (steps.Taken (so.Going s)) = refl
 seen-index f (steps.Taken (so.Read x)) = refl
 seen-index f (steps.Bad x) = refl
 
--- answers that look alike are one, and so are the work areas that they leave
-index-seen : (f f' : Flow) (r r' : IndexStep) → viewIndex f r ≡ viewIndex f' r' → _≡_ {A = IndexStep × List ℕ} (r, f .work) (r', f' .work)
-index-seen f f' r r' e = sym (seen-index f r) ∙ (ap seenIndex e ∙ seen-index f' r')
-
 -- of one answer to a byte: one refusal
 pub refused-index-once : OneOutcome 0 refused-kinds.ps refused-kinds.r refused-stated.Pre refused-stated.Post
-refused-index-once = record {
-  asks-nothing = λ κs given. tt;
-  outcomes-coincide = λ κs given r r' left left' p q. (p ∙ sym q, refl);
-}
+refused-index-once = record { asks-nothing = λ κs given. tt; outcomes-coincide = λ κs given r r' left left' p q. (p ∙ sym q, refl) }
 
 -- of nothing: one index to begin with
 pub index-begin-once : OneOutcome 0 begin-kinds.ps begin-kinds.r begin-stated.Pre begin-stated.Post
-index-begin-once = record {
-  asks-nothing = λ κs given. tt;
-  outcomes-coincide = λ κs given r r' left left' p q. (p ∙ sym q, refl);
-}
+index-begin-once = record { asks-nothing = λ κs given. tt; outcomes-coincide = λ κs given r r' left left' p q. (p ∙ sym q, refl) }
 
 -- of one byte of one entry: one place in the work area
 pub byte-place-once : Coincide 0 place-kinds.ps place-kinds.r place-stated.Post
@@ -60,7 +51,7 @@ index-byte-once = λ κs given r r' left left' p q.
     let at = given .1 .1 .1 .0 in
     let held = left .1 .1 .1 .1 .1 .1 .0 in
     let held' = left' .1 .1 .1 .1 .1 .1 .0 in
-    let same = index-seen (flowOf 0 at 0 held []) (flowOf 0 at 0 held' []) r r' (p 0 0 [] ∙ sym (q 0 0 [])) in (
+    let same = left-inverse-equal seenIndex (seen-index (flowOf 0 at 0 held []) r) (seen-index (flowOf 0 at 0 held' []) r') (p 0 0 [] ∙ sym (q 0 0 [])) in (
       ap (λ (o : IndexStep × List ℕ). o .0) same,
       ap (λ (o : IndexStep × List ℕ). after 1 byte-kinds.ps byte-kinds.r κs given (tt, (tt, (tt, (tt, (tt, (tt, (o .1, tt)))))))) same,
     )

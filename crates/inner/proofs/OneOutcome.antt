@@ -2,6 +2,7 @@
 use Prim.Native.Nat.{ℕ}
 use mathlib.Core.Path.{_≡_, refl, sym, ap, _∙_}
 use mathlib.Core.List.{List, []}
+use Rattle.basics.proofs.Outcomes.{left-inverse-equal}
 use Rattle.basics.specs.Outcome.{Coincide, after}
 use Rattle.machine.specs.Run.{Sub, go, done, bad}
 use Rattle.machine.specs.Lists.{Box, inHead, inBody}
@@ -29,17 +30,13 @@ seen-inner f (inners.Go (boxes.Body span s)) = refl
 seen-inner f (inners.Done x) = refl
 seen-inner f (inners.Bad x) = refl
 
--- answers that look alike are one, and so are the work areas that they leave
-inner-seen : (f f' : Flow) (r r' : InnerStep) → viewInner f r ≡ viewInner f' r' → _≡_ {A = InnerStep × List ℕ} (r, f .work) (r', f' .work)
-inner-seen f f' r r' e = sym (seen-inner f r) ∙ (ap seenInner e ∙ seen-inner f' r')
-
 -- of one top index, entry, depth, box so far, time, count of bytes, byte and work area: one answer, and one work area after the call, byte by byte
 pub inner-byte-once : Coincide 1 byte-kinds.ps byte-kinds.r byte-stated.Post
 inner-byte-once = λ κs given r r' left left' p q.
     let at = given .1 .1 .1 .1 .0 in
     let held = left .1 .1 .1 .1 .1 .1 .1 .0 in
     let held' = left' .1 .1 .1 .1 .1 .1 .1 .0 in
-    let same = inner-seen (flowOf 0 at 0 held []) (flowOf 0 at 0 held' []) r r' (p 0 0 [] ∙ sym (q 0 0 [])) in (
+    let same = left-inverse-equal seenInner (seen-inner (flowOf 0 at 0 held []) r) (seen-inner (flowOf 0 at 0 held' []) r') (p 0 0 [] ∙ sym (q 0 0 [])) in (
       ap (λ (o : InnerStep × List ℕ). o .0) same,
       ap (λ (o : InnerStep × List ℕ). after 1 byte-kinds.ps byte-kinds.r κs given (tt, (tt, (tt, (tt, (tt, (tt, (tt, (o .1, tt))))))))) same,
     )

@@ -1,9 +1,12 @@
 // The first box of an index entry, one byte at a time: it must be an inner index, which fills its entry.
 ghost use mathlib.Core.Path.{_≡_};
 ghost use mathlib.Core.List.{List, _++_};
+ghost use mathlib.Core.Bool.{not, _&&_};
 ghost use Prim.Native.Nat.{ℕ, _<_, _≤_};
+ghost use lib.Dec.{eqb, leb};
 ghost use lib.ListN.{length};
-ghost use Rattle.segment.specs.Constants.{limit};
+ghost use Rattle.basics.specs.Choose.{pick};
+ghost use Rattle.segment.specs.Constants.{limit, workBytes, levels, styp, sidx};
 ghost use Rattle.machine.specs.Heads.{sizeFaults};
 ghost use Rattle.machine.specs.Lists.{headed, stepBox};
 ghost use Rattle.state.specs.Flow.{Flow, workBytes};
@@ -40,28 +43,28 @@ pub enum InnerStep {
     Bad(Refusal),
 }
 
-// The lowest number that the header of the first box shows, or 0; `depth` indexes stand open around it.
-fn inner_flaw(end: u64, depth: u64, h: Header) -> u64
-    ensures { λ r. ⌜ r ≡ flawOf (sizeFaults end h ++ innerFaults depth h) ⌝ }
+// The number that the type of the first box shows, or 0; `depth` indexes stand open around it.
+fn kind_flaw(depth: u64, kind: u64) -> u64
+    ensures { λ r. ⌜ r ≡ pick (eqb kind styp) 7 (pick (not (eqb kind sidx)) 9 (pick (eqb kind sidx && leb levels depth) 13 0)) ⌝ }
 {
-    let size = header::size_flaw(end, h);
-    if size != 0 {
-        return size;
-    }
-    let length = header::length_flaw(h);
-    if length != 0 {
-        return length;
-    }
-    if h.kind == STYP {
+    if kind == STYP {
         return 7;
     }
-    if h.kind != SIDX {
+    if kind != SIDX {
         return 9;
     }
     if LEVELS <= depth {
         return 13;
     }
     0
+}
+
+// The lowest number that the header of the first box shows, or 0.
+fn inner_flaw(end: u64, depth: u64, h: Header) -> u64
+    ensures { λ r. ⌜ r ≡ flawOf (sizeFaults end h ++ innerFaults depth h) ⌝ }
+{
+    let other = kind_flaw(depth, h.kind);
+    header::header_flaw(end, h, other)
 }
 
 // The header is read. One that shows no fault ends within the entry, so that its end does not wrap.

@@ -3,10 +3,7 @@ use Prim.Native.Nat.{ℕ}
 use mathlib.Core.Path.{_≡_}
 use mathlib.Core.Bool.{Bool}
 use Rattle.basics.specs.Choose.{pick}
-use Rattle.machine.specs.Run.{Sub, go, done, bad, lift}
-use Rattle.machine.specs.Lists.{Box, inHead, Boxes, liftBox, liftBody, headed}
-use Rattle.machine.specs.declared.Head.{Head}
-use Rattle.machine.specs.declared.Header.{Header}
+use Rattle.machine.specs.Run.{Sub, go, done, bad}
 use Rattle.state.specs.Flow.{Flow, Left, left}
 use Rattle.state.specs.Rows.{noRoom}
 use Rattle.state.specs.Leaf.{Passed, skipped, seeing}
@@ -57,14 +54,3 @@ RoomIs full f = noRoom (f .leaves) (f .table) ≡ full
 -- the number of what a leaf lacks at its end, 0 for nothing
 unfoldable pub lackOf : Bool → Bool → ℕ
 lackOf full any = pick full 15 (pick any 0 19)
-
--- The answer of a box's body, of a header that was read, and of a byte of a header, in a list: `n` bytes up to the one at hand.
-module _ {A B R Q S : Type 0} (l : Boxes A B R Q Flow Left) (wrap : A → Box B → S) (a : A) (n : ℕ) where
-  abbrev pub afterBody : Sub B R Flow Left → Sub S Q Flow Left
-  afterBody r = liftBox l wrap a n (liftBody (l .box a) r)
-
-  abbrev pub afterHeader : Header → Flow → Sub S Q Flow Left
-  afterHeader h f = liftBox l wrap a n (headed (l .box a) h f n)
-
-  abbrev pub afterHead : Sub Head Header Flow Left → Sub S Q Flow Left
-  afterHead r = liftBox l wrap a n (lift inHead (λ h f. headed (l .box a) h f n) bad r)

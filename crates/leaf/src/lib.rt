@@ -7,7 +7,7 @@ use header::MOOF;
 use header::SIDX;
 use header::STYP;
 use header::head_byte;
-use header::length_flaw;
+use header::header_flaw;
 use header::refused_head;
 use header::size_flaw;
 use machine::Head;
@@ -27,20 +27,21 @@ use traf::traf_byte;
 ghost use Prim.Native.Nat.{ℕ, _+_, _<_};
 ghost use mathlib.Core.Path.{_≡_};
 ghost use mathlib.Core.Bool.{not, _&&_, _||_};
-ghost use mathlib.Core.List.{[]};
+ghost use mathlib.Core.List.{[], _++_};
 ghost use lib.Dec.{eqb};
 ghost use Rattle.basics.specs.Choose.{pick};
-ghost use Rattle.segment.specs.Constants.{limit, timeLimit, sidx, mdat};
+ghost use Rattle.segment.specs.Constants.{limit, timeLimit, styp, sidx, mdat};
 ghost use Rattle.machine.specs.Faults.{lowest};
+ghost use Rattle.machine.specs.Heads.{sizeFaults};
 ghost use Rattle.machine.specs.Lists.{goOn};
-ghost use Rattle.header.specs.Views.{viewHead};
+ghost use Rattle.header.specs.Views.{viewHead, afterBody, afterHeader, afterHead};
 ghost use Rattle.header.specs.Flaws.{flawOf};
 ghost use Rattle.state.specs.Flow.{Flow, left};
 ghost use Rattle.state.specs.Rows.{noRoom, leafFaults};
 ghost use Rattle.state.specs.Leaf.{seenNow, skipMoof, liftTraf, beginMoof, stepMoofBody, moofNext, moofBoxes, wrapMoof, stepMoof, skipLeaf, liftMoof, beginLeaf, stepLeafBody, leafNow, leafLacks, leafNext, leafBoxes, wrapLeaf, stepLeaf};
 ghost use Rattle.state.specs.Ranges.{Within, moofBodyBounds, moofBounds, leafBodyBounds, leafBounds};
 ghost use Rattle.traf.specs.Views.{viewTraf};
-ghost use Rattle.leaf.specs.Leaf.{passedOf, viewMoofBody, viewMoof, viewLeafBody, viewLeaf, RoomIs, afterBody, afterHeader, afterHead, lackOf};
+ghost use Rattle.leaf.specs.Leaf.{passedOf, viewMoofBody, viewMoof, viewLeafBody, viewLeaf, RoomIs, lackOf};
 
 // The type `traf`, as the number that its letters spell.
 const TRAF: u64 = 1953653094;
@@ -328,14 +329,12 @@ fn misplaced(kind: u64, had: bool) -> bool
     false
 }
 
-// The lowest number of the faults that a header shows in a leaf, or 0.
-fn leaf_flaw(pos: u64, had: bool, full: bool, h: Header) -> u64
-    ensures { λ r. ⌜ ((f : Flow) → RoomIs full f → r ≡ flawOf (leafFaults pos had h f)) ⌝ }
+// The number that a header shows in a leaf by its type and its place, or 0.
+fn kind_flaw(pos: u64, had: bool, full: bool, h: Header) -> u64
+    ensures { λ r. ⌜
+        r ≡ pick (eqb (h .kind) styp) 7 (pick (eqb (h .kind) sidx || eqb (h .kind) mdat && not had) 9 (pick (eqb (h .pos) pos && full) 15 0))
+        ⌝ }
 {
-    let length = length_flaw(h);
-    if length != 0 {
-        return length;
-    }
     if h.kind == STYP {
         return 7;
     }
@@ -351,19 +350,18 @@ fn leaf_flaw(pos: u64, had: bool, full: bool, h: Header) -> u64
     0
 }
 
+// The lowest number of the faults that a header shows in a leaf, or 0.
+fn leaf_flaw(slot: Slot, had: bool, full: bool, h: Header) -> u64
+    ensures { λ r. ⌜ ((f : Flow) → RoomIs full f → r ≡ flawOf (sizeFaults (slot .end) h ++ leafFaults (slot .pos) had h f)) ⌝ }
+{
+    header_flaw(slot.end, h, kind_flaw(slot.pos, had, full, h))
+}
+
 // The header of a box in a leaf is read: `n` bytes up to its last.
 fn after_leaf_header(slot: Slot, so: LeafSo, full: bool, h: Header, n: u64) -> LeafStep
     ensures { λ r. ⌜ ((id : ℕ) (f : Flow) → RoomIs full f → viewLeaf f r ≡ afterHeader (leafBoxes id slot) wrapLeaf so n h f) ⌝ }
 {
-    let short = size_flaw(slot.end, h);
-    if short != 0 {
-        let x = Refusal {
-            number: short,
-            place: h.pos,
-        };
-        return LeafStep::Bad(worse_in_leaf(slot, so, full, x, n));
-    }
-    let flaw = leaf_flaw(slot.pos, so.moof, full, h);
+    let flaw = leaf_flaw(slot, so.moof, full, h);
     if flaw != 0 {
         let x = Refusal {
             number: flaw,

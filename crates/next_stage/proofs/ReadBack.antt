@@ -1,7 +1,8 @@
 -- A stage's step and the two buffers, had back from what is read of them: readings that are equal are of equal steps and buffers.
 use Prim.Native.Nat.{ℕ}
-use mathlib.Core.Path.{_≡_, refl, ap, sym, _∙_}
+use mathlib.Core.Path.{_≡_, refl, sym, _∙_}
 use mathlib.Core.List.{List}
+use Rattle.basics.proofs.Outcomes.{left-inverse-equal}
 use Rattle.machine.specs.Run.{Sub, go, done, bad}
 use Rattle.state.specs.declared.Stage.{Stage}
 use Rattle.state.specs.declared.Top.{Top}
@@ -49,10 +50,10 @@ module _ (leaves : ℕ) (work table : List ℕ) where
 module _ (leaves : ℕ) (work work' table table' : List ℕ) (q q' : StageStep) (z : Sub Stage Top Flow Left) where
   module _ (p : viewStage leaves work table q ≡ z) (p' : viewStage leaves work' table' q' ≡ z) where
     pub one-step : q ≡ q'
-    one-step = sym (step-back leaves work table q) ∙ ap stepIn (p ∙ sym p') ∙ step-back leaves work' table' q'
+    one-step = left-inverse-equal stepIn (step-back leaves work table q) (step-back leaves work' table' q') (p ∙ sym p')
 
     pub one-work : work ≡ work'
-    one-work = sym (work-back leaves work table q) ∙ ap workIn (p ∙ sym p') ∙ work-back leaves work' table' q'
+    one-work = left-inverse-equal workIn (work-back leaves work table q) (work-back leaves work' table' q') (p ∙ sym p')
 
     pub one-table : table ≡ table'
-    one-table = sym (table-back leaves work table q) ∙ ap tableIn (p ∙ sym p') ∙ table-back leaves work' table' q'
+    one-table = left-inverse-equal tableIn (table-back leaves work table q) (table-back leaves work' table' q') (p ∙ sym p')

@@ -1,5 +1,3 @@
-pub mod GapFlaws
-pub mod GapSteps
-pub mod OpeningFlaws
+pub mod Flaws
 pub mod OpeningSteps
 pub mod OneOutcome

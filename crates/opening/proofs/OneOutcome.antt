@@ -2,6 +2,7 @@
 use Prim.Native.Nat.{ℕ}
 use mathlib.Core.Path.{_≡_, refl, sym, ap, _∙_}
 use mathlib.Core.List.{List, []}
+use Rattle.basics.proofs.Outcomes.{left-inverse-equal}
 use Rattle.basics.specs.Outcome.{Coincide, after}
 use Rattle.machine.specs.Run.{Sub, go, done, bad}
 use Rattle.state.specs.declared.Index.{Index}
@@ -40,25 +41,18 @@ seen-opening f (openings.Go s) = refl
 seen-opening f (openings.Done x) = refl
 seen-opening f (openings.Bad x) = refl
 
--- answers that look alike are one, and so are the work areas that they leave
-gap-seen : (f : Flow) (r r' : GapStep) → viewGap f r ≡ viewGap f r' → r ≡ r'
-gap-seen f r r' e = sym (seen-gap f r) ∙ (ap seenGap e ∙ seen-gap f r')
-
-opening-seen : (f f' : Flow) (r r' : OpeningStep) → viewOpening f r ≡ viewOpening f' r' → _≡_ {A = OpeningStep × List ℕ} (r, f .work) (r', f' .work)
-opening-seen f f' r r' e = sym (seen-opening f r) ∙ (ap seenOpening e ∙ seen-opening f' r')
-
 -- of one end of the gap, boxes so far, count of bytes and byte: one answer
 pub gap-byte-once : Coincide 0 gap-kinds.ps gap-kinds.r gap-stated.Post
 gap-byte-once = λ κs given r r' left left' p q.
     let f = flowOf 0 0 0 [] [] in
-    (gap-seen f r r' (p f ∙ sym (q f)), refl)
+    (left-inverse-equal seenGap (seen-gap f r) (seen-gap f r') (p f ∙ sym (q f)), refl)
 
 -- of one brand, boxes so far, count of bytes, byte and work area: one answer, and one work area after the call, byte by byte
 pub opening-byte-once : Coincide 1 opening-kinds.ps opening-kinds.r opening-stated.Post
 opening-byte-once = λ κs given r r' left left' p q.
     let held = left .1 .1 .1 .1 .0 in
     let held' = left' .1 .1 .1 .1 .0 in
-    let same = opening-seen (flowOf 0 0 0 held []) (flowOf 0 0 0 held' []) r r' (p 0 0 0 [] ∙ sym (q 0 0 0 [])) in (
+    let same = left-inverse-equal seenOpening (seen-opening (flowOf 0 0 0 held []) r) (seen-opening (flowOf 0 0 0 held' []) r') (p 0 0 0 [] ∙ sym (q 0 0 0 [])) in (
       ap (λ (o : OpeningStep × List ℕ). o .0) same,
       ap (λ (o : OpeningStep × List ℕ). after 1 opening-kinds.ps opening-kinds.r κs given (tt, (tt, (tt, (tt, (o .1, tt)))))) same,
     )

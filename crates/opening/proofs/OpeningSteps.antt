@@ -1,20 +1,14 @@
--- One byte up to the top index from what its header or its body makes of the byte; and the top index at any time.
+-- A box that is skipped up to the top index; and the top index at any time.
 use Prim.Native.Nat.{ℕ, zero, suc, _+_, _-_, _*_}
 use mathlib.Core.Path.{_≡_, refl, ap, sym, _∙_}
-use mathlib.Core.List.{List, _++_}
+use mathlib.Core.List.{List}
 use mathlib.Core.Bool.{Bool}
-use native.Mathlib.Omega.{arith}
-use native.Mathlib.Numerals.{add-one}
 use lib.Dec.{eqb}
 use borrow.Author.Tests.{ne-eqb}
 use Rattle.basics.proofs.Picks.{pick-no, pick-both}
-use Rattle.segment.specs.Constants.{limit, styp, sidx}
+use Rattle.segment.specs.Constants.{styp, sidx}
 use Rattle.machine.specs.Run.{Sub, go, done, bad, lift}
-use Rattle.machine.specs.Heads.{boxEnd, stepHead}
-use Rattle.machine.specs.Heads as heads
-use Rattle.machine.specs.Lists.{Box, headed, liftBox, stepBox}
-use Rattle.machine.specs.Faults.{refusal, lowest}
-use Rattle.machine.specs.declared.Head.{Head}
+use Rattle.machine.specs.Heads.{boxEnd}
 use Rattle.machine.specs.declared.Header.{Header}
 use Rattle.machine.proofs.Faults.{unless-both}
 use Rattle.state.specs.declared.Span.{Span}
@@ -27,68 +21,16 @@ use Rattle.state.specs.declared.IndexPart.{IndexPart}
 use Rattle.state.specs.declared.IndexPart.the-variants as part
 use Rattle.state.specs.declared.EntryPart.{EntryPart}
 use Rattle.state.specs.declared.EntryPart.the-variants as entry
-use Rattle.state.specs.declared.StypPart.{StypPart}
-use Rattle.state.specs.declared.OpeningBody.{OpeningBody}
 use Rattle.state.specs.declared.OpeningBody.the-variants as body
-use Rattle.state.specs.declared.OpeningBoxes.{OpeningBoxes}
-use Rattle.state.specs.declared.OpeningBoxes.the-variants as boxes
-use Rattle.state.specs.Flow.{Flow, Left, left, withNow}
-use Rattle.state.specs.Rows.{openingFaults}
+use Rattle.state.specs.Flow.{Flow, Left, withNow}
 use Rattle.state.specs.Sidx.{topmost, sidxVersionFaults, idFaults, scaleFaults, timeFaults, offsetFaults, countFaults, sumFaults, entrySizeFaults, indexOf, closeSidx, fieldEnds, entryEnds, keepByte, stepSidx}
 use Rattle.state.specs.Calls.{flowOf}
-use Rattle.state.specs.Opening.{Opened, indexed, beginOpening, stypEnds, skipOpening, stepOpeningBody, openingBox, opening, wrapOpening, stepOpening}
-use Rattle.header.specs.Flaws.{flawOf}
-use Rattle.header.proofs.Flaws.{flaw-none, flaw-some}
+use Rattle.state.specs.Opening.{indexed, beginOpening, skipOpening, stepOpeningBody}
 use Rattle.index.specs.Views.{viewIndex}
 use Rattle.index.specs.declared.IndexStep.{IndexStep}
 use Rattle.index.specs.declared.IndexStep.the-variants as steps
 use Rattle.index.specs.declared.IndexSo.the-variants as so
-use Rattle.opening.specs.Views.{headOpening, bodyOpening}
-use Rattle.opening.proofs.OpeningFlaws.{opening-placed}
-
-module _ (brand : ℕ) (branded : Bool) (f : Flow) (n b : ℕ) where
-  pub opening-head-step : (h : Head) →
-      headOpening brand branded (n + 1) (stepHead left limit h f n b) ≡ stepOpening brand (boxes.Head branded h) f n b
-  unfolding stepOpening stepBox
-  opening-head-step h =
-      ap (λ (m : ℕ). headOpening brand branded m (stepHead left limit h f n b)) (add-one n)
-
-  pub opening-body-step : (s : OpeningBody) →
-      bodyOpening brand branded (n + 1) (stepOpeningBody brand s f n b) ≡ stepOpening brand (boxes.Body branded s) f n b
-  unfolding stepOpening stepBox
-  opening-body-step s = ap (λ (m : ℕ). bodyOpening brand branded m (stepOpeningBody brand s f n b)) (add-one n)
-
-  pub skip-step : (stop : ℕ) → skipOpening stop f (n + 1) ≡ stepOpeningBody brand (body.Skip stop) f n b
-  unfolding stepOpeningBody
-  skip-step stop = ap (λ (m : ℕ). skipOpening stop f m) (add-one n)
-
-  pub styp-last : (span : Span) (p : StypPart) (found : Bool) (more acc : ℕ) → more ≡ 0 →
-      stypEnds brand span p found (acc * 256 + b) f (n + 1) ≡ stepOpeningBody brand (body.Styp span p found more acc) f n b
-  unfolding stepOpeningBody
-  styp-last span p found zero acc e = ap (λ (m : ℕ). stypEnds brand span p found (acc * 256 + b) f m) (add-one n)
-  styp-last span p found (suc m) acc e = absurd (omega arith)
-
-  pub styp-more : (span : Span) (p : StypPart) (found : Bool) (more acc : ℕ) → (more ≡ 0 → ⊥) →
-      go (body.Styp span p found (more - 1) (acc * 256 + b)) f ≡ stepOpeningBody brand (body.Styp span p found more acc) f n b
-  unfolding stepOpeningBody
-  styp-more span p found zero acc e = absurd (e refl)
-  styp-more span p found (suc m) acc e = let k : suc m - 1 ≡ m = omega arith in ap (λ (m' : ℕ). go (body.Styp span p found m' (acc * 256 + b)) f) k
-
--- a header that shows a fault, and one that shows none
-module _ (brand : ℕ) (branded : Bool) (m flaw : ℕ) (h : Header) (f : Flow) (e : flaw ≡ flawOf (heads.sizeFaults limit h ++ openingFaults branded h)) where
-  abbrev boxed : Sub (Box OpeningBody) Opened Flow Left → Sub OpeningBoxes Index Flow Left
-  boxed r = liftBox (opening brand) wrapOpening branded m r
-
-  pub opening-refused : (flaw ≡ 0 → ⊥) → bad (refusal flaw (h .pos)) (left f) ≡ boxed (headed (openingBox brand branded) h f m)
-  unfolding headed lift lowest
-  opening-refused k =
-      ap (λ (v : ℕ). bad (refusal v (h .pos)) (left f)) e
-      ∙ sym (ap boxed (flaw-some (h .pos) (heads.sizeFaults limit h ++ openingFaults branded h) (λ x. bad x (left f)) _ (opening-placed branded h) (λ z. k (e ∙ z))))
-
-  pub opening-begun : flaw ≡ 0 → bodyOpening brand branded m (beginOpening h f m) ≡ boxed (headed (openingBox brand branded) h f m)
-  unfolding headed
-  opening-begun k =
-      sym (ap boxed (flaw-none (h .pos) (heads.sizeFaults limit h ++ openingFaults branded h) (λ x. bad x (left f)) _ (opening-placed branded h) (sym e ∙ k)))
+use Rattle.opening.specs.Views.{bodyOpening}
 
 -- a box that is neither `styp` nor `sidx` is skipped
 pub skipped : (h : Header) (f : Flow) (m : ℕ) → (h .kind ≡ styp → ⊥) → (h .kind ≡ sidx → ⊥) → skipOpening (boxEnd h) f m ≡ beginOpening h f m

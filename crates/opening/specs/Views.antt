@@ -1,17 +1,17 @@
 -- The code's answer to a byte, with what flows, as a machine's answer.
 use Prim.Native.Nat.{ℕ}
 use mathlib.Core.Bool.{Bool}
-use Rattle.machine.specs.Run.{Sub, go, done, bad, lift}
-use Rattle.machine.specs.Lists.{inHead, headed, liftBody, liftBox}
+use Rattle.machine.specs.Run.{Sub, go, done, bad}
 use Rattle.machine.specs.declared.Head.{Head}
 use Rattle.machine.specs.declared.Header.{Header}
 use Rattle.state.specs.declared.GapBoxes.{GapBoxes}
 use Rattle.state.specs.declared.OpeningBoxes.{OpeningBoxes}
 use Rattle.state.specs.declared.Index.{Index}
 use Rattle.state.specs.declared.OpeningBody.{OpeningBody}
+use Rattle.header.specs.Views.{afterHead, afterBody}
 use Rattle.state.specs.Flow.{Flow, Left, left}
-use Rattle.state.specs.Opening.{Opened, openingBox, opening, wrapOpening}
-use Rattle.state.specs.Stages.{gapKind, gapBoxes, wrapGap}
+use Rattle.state.specs.Opening.{Opened, opening, wrapOpening}
+use Rattle.state.specs.Stages.{gapBoxes, wrapGap}
 use Rattle.opening.specs.declared.GapStep.{GapStep}
 use Rattle.opening.specs.declared.GapStep.the-variants as gaps
 use Rattle.opening.specs.declared.OpeningStep.{OpeningStep}
@@ -30,14 +30,14 @@ viewOpening f (openings.Bad x) = bad x (left f)
 
 -- what the gap makes of a header's answer, and of a body's: `m` bytes up to the one at hand
 abbrev pub headGap : ℕ → ℕ → Sub Head Header Flow Left → Sub GapBoxes (Unit {0}) Flow Left
-headGap end m r = liftBox (gapBoxes end) wrapGap tt m (lift inHead (λ h f. headed (gapKind end) h f m) bad r)
+headGap end m r = afterHead (gapBoxes end) wrapGap tt m r
 
 abbrev pub bodyGap : ℕ → ℕ → Sub ℕ (Unit {0}) Flow Left → Sub GapBoxes (Unit {0}) Flow Left
-bodyGap end m r = liftBox (gapBoxes end) wrapGap tt m (liftBody (gapKind end) r)
+bodyGap end m r = afterBody (gapBoxes end) wrapGap tt m r
 
 -- the same up to the top index
 abbrev pub headOpening : ℕ → Bool → ℕ → Sub Head Header Flow Left → Sub OpeningBoxes Index Flow Left
-headOpening brand branded m r = liftBox (opening brand) wrapOpening branded m (lift inHead (λ h f. headed (openingBox brand branded) h f m) bad r)
+headOpening brand branded m r = afterHead (opening brand) wrapOpening branded m r
 
 abbrev pub bodyOpening : ℕ → Bool → ℕ → Sub OpeningBody Opened Flow Left → Sub OpeningBoxes Index Flow Left
-bodyOpening brand branded m r = liftBox (opening brand) wrapOpening branded m (liftBody (openingBox brand branded) r)
+bodyOpening brand branded m r = afterBody (opening brand) wrapOpening branded m r

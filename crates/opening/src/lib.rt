@@ -6,17 +6,17 @@ ghost use Prim.Native.Nat.{ℕ, _+_, _<_, _≤_};
 ghost use lib.Dec.{eqb};
 ghost use Rattle.basics.specs.Choose.{pick};
 ghost use lib.ListN.{length};
-ghost use Rattle.segment.specs.Constants.{limit, styp};
+ghost use Rattle.segment.specs.Constants.{limit, workBytes, styp, moof, mdat, sidx};
 ghost use Rattle.machine.specs.Run.{done, bad, lift};
 ghost use Rattle.machine.specs.Heads.{sizeFaults};
-ghost use Rattle.machine.specs.Lists.{headed, liftBox, goOn};
-ghost use Rattle.state.specs.Flow.{Flow, workBytes};
+ghost use Rattle.machine.specs.Lists.{goOn};
+ghost use Rattle.state.specs.Flow.{Flow};
 ghost use Rattle.state.specs.Rows.{openingFaults, gapFaults};
-ghost use Rattle.state.specs.Opening.{indexed, brandsFrom, stypEnds, skipOpening, beginOpening, stepOpeningBody, openingBox, opening, wrapOpening, stepOpening};
-ghost use Rattle.state.specs.Stages.{skipGap, gapKind, gapNext, gapBoxes, wrapGap, stepGap};
+ghost use Rattle.state.specs.Opening.{indexed, brandsFrom, stypEnds, skipOpening, beginOpening, stepOpeningBody, opening, wrapOpening, stepOpening};
+ghost use Rattle.state.specs.Stages.{skipGap, gapNext, gapBoxes, wrapGap, stepGap};
 ghost use Rattle.state.specs.Ranges.{Within, openingBodyBounds, openingBounds, gapBounds};
 ghost use Rattle.state.specs.Calls.{flowOf};
-ghost use Rattle.header.specs.Views.{viewHead};
+ghost use Rattle.header.specs.Views.{viewHead, afterHeader};
 ghost use Rattle.header.specs.Flaws.{flawOf};
 ghost use Rattle.index.specs.Views.{viewIndex};
 ghost use Rattle.opening.specs.Views.{viewGap, viewOpening, headGap, bodyGap, headOpening, bodyOpening};
@@ -54,31 +54,31 @@ pub enum GapStep {
     Bad(Refusal),
 }
 
+// The number that a type shows in the gap, or 0.
+fn gap_kind_flaw(kind: u64) -> u64
+    ensures { λ r. ⌜ r ≡ pick (eqb kind styp) 7 (pick (eqb kind moof || eqb kind mdat || eqb kind sidx) 9 0) ⌝ }
+{
+    if kind == STYP {
+        return 7;
+    }
+    if kind == MOOF {
+        return 9;
+    }
+    if kind == MDAT {
+        return 9;
+    }
+    if kind == SIDX {
+        return 9;
+    }
+    0
+}
+
 // The lowest number that a header in the gap shows, or 0.
 fn gap_flaw(end: u64, h: Header) -> u64
     ensures { λ r. ⌜ r ≡ flawOf (sizeFaults end h ++ gapFaults h) ⌝ }
 {
-    let size = header::size_flaw(end, h);
-    if size != 0 {
-        return size;
-    }
-    let length = header::length_flaw(h);
-    if length != 0 {
-        return length;
-    }
-    if h.kind == STYP {
-        return 7;
-    }
-    if h.kind == MOOF {
-        return 9;
-    }
-    if h.kind == MDAT {
-        return 9;
-    }
-    if h.kind == SIDX {
-        return 9;
-    }
-    0
+    let other = gap_kind_flaw(h.kind);
+    header::header_flaw(end, h, other)
 }
 
 // After a box of the gap: `m` bytes up to its last.
@@ -103,7 +103,7 @@ fn gap_skip(end: u64, stop: u64, m: u64) -> GapStep
 
 // A header in the gap is read.
 fn gap_headed(end: u64, h: Header, m: u64) -> GapStep
-    ensures { λ r. ⌜ ((f : Flow) → viewGap f r ≡ liftBox (gapBoxes end) wrapGap tt m (headed (gapKind end) h f m)) ⌝ }
+    ensures { λ r. ⌜ ((f : Flow) → viewGap f r ≡ afterHeader (gapBoxes end) wrapGap tt m h f) ⌝ }
 {
     let flaw = gap_flaw(end, h);
     if flaw != 0 {
@@ -148,28 +148,28 @@ fn misplaced(branded: bool, kind: u64) -> bool
     kind != STYP
 }
 
+// The number that a type shows up to the top index, or 0.
+fn opening_kind_flaw(branded: bool, kind: u64) -> u64
+    ensures { λ r. ⌜ r ≡ pick (pick branded (eqb kind styp) (not (eqb kind styp))) 7 (pick (eqb kind moof || eqb kind mdat) 9 0) ⌝ }
+{
+    if misplaced(branded, kind) {
+        return 7;
+    }
+    if kind == MOOF {
+        return 9;
+    }
+    if kind == MDAT {
+        return 9;
+    }
+    0
+}
+
 // The lowest number that a header up to the top index shows, or 0.
 fn opening_flaw(branded: bool, h: Header) -> u64
     ensures { λ r. ⌜ r ≡ flawOf (sizeFaults limit h ++ openingFaults branded h) ⌝ }
 {
-    let size = header::size_flaw(LIMIT, h);
-    if size != 0 {
-        return size;
-    }
-    let length = header::length_flaw(h);
-    if length != 0 {
-        return length;
-    }
-    if misplaced(branded, h.kind) {
-        return 7;
-    }
-    if h.kind == MOOF {
-        return 9;
-    }
-    if h.kind == MDAT {
-        return 9;
-    }
-    0
+    let other = opening_kind_flaw(branded, h.kind);
+    header::header_flaw(LIMIT, h, other)
 }
 
 // A box is passed, and others follow.
@@ -219,7 +219,7 @@ fn opening_begin(branded: bool, h: Header, m: u64) -> OpeningStep
 
 // A header up to the top index is read.
 fn opening_headed(branded: bool, h: Header, m: u64) -> OpeningStep
-    ensures { λ r. ⌜ ((brand : ℕ) (f : Flow) → viewOpening f r ≡ liftBox (opening brand) wrapOpening branded m (headed (openingBox brand branded) h f m)) ⌝ }
+    ensures { λ r. ⌜ ((brand : ℕ) (f : Flow) → viewOpening f r ≡ afterHeader (opening brand) wrapOpening branded m h f) ⌝ }
 {
     let flaw = opening_flaw(branded, h);
     if flaw != 0 {

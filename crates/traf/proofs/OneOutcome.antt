@@ -1,6 +1,7 @@
 -- The contracts of the functions that other crates call, as the check reads them: two outcomes that one allows coincide, and one that asks nothing says so.
-use mathlib.Core.Path.{_≡_, refl, sym, ap, _∙_}
+use mathlib.Core.Path.{_≡_, refl, sym, _∙_}
 use mathlib.Core.List.{[]}
+use Rattle.basics.proofs.Outcomes.{left-inverse-equal}
 use Rattle.basics.specs.Outcome.{Coincide, OneOutcome}
 use Rattle.machine.specs.Run.{Sub, go, done, bad}
 use Rattle.state.specs.declared.Seen.{Seen}
@@ -26,15 +27,11 @@ seen-traf f (steps.Go s) = refl
 seen-traf f (steps.Done seen) = refl
 seen-traf f (steps.Bad x) = refl
 
--- answers that look alike while something flows are one
-traf-seen : (f : Flow) (r r' : TrafStep) → viewTraf f r ≡ viewTraf f r' → r ≡ r'
-traf-seen f r r' e = sym (seen-traf f r) ∙ (ap seenTraf e ∙ seen-traf f r')
-
 -- of one reference ID, `traf`, boxes so far, count of bytes and byte: one answer
 pub traf-byte-once : Coincide 0 byte-kinds.ps byte-kinds.r byte-stated.Post
 traf-byte-once = λ κs given r r' left left' p q.
     let f = flowOf 0 0 0 [] [] in
-    (traf-seen f r r' (p f ∙ sym (q f)), refl)
+    (left-inverse-equal seenTraf (seen-traf f r) (seen-traf f r') (p f ∙ sym (q f)), refl)
 
 -- of one `traf`, decode times seen and count of bytes: one answer
 pub traf-begin-once : OneOutcome 0 begin-kinds.ps begin-kinds.r begin-stated.Pre begin-stated.Post
@@ -42,5 +39,5 @@ traf-begin-once = record {
   asks-nothing = λ κs given. tt;
   outcomes-coincide = λ κs given r r' left left' p q.
       let f = flowOf 0 0 0 [] [] in
-      (traf-seen f r r' (p 0 f ∙ sym (q 0 f)), refl);
+      (left-inverse-equal seenTraf (seen-traf f r) (seen-traf f r') (p 0 f ∙ sym (q 0 f)), refl);
 }

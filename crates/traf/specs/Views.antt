@@ -5,18 +5,14 @@ use mathlib.Core.Bool.{Bool, true, false}
 use lib.Dec.{eqb}
 use Rattle.basics.specs.Choose.{pick}
 use Rattle.machine.specs.Faults.{refusal}
-use Rattle.machine.specs.Run.{Sub, go, done, bad, lift}
-use Rattle.machine.specs.Lists.{inHead, liftBox, liftBody, headed as headedBox}
+use Rattle.machine.specs.Run.{Sub, go, done, bad}
 use Rattle.machine.specs.declared.Refusal.{Refusal}
-use Rattle.machine.specs.declared.Head.{Head}
-use Rattle.machine.specs.declared.Header.{Header}
 use Rattle.state.specs.Flow.{Flow, Left, left}
-use Rattle.state.specs.Traf.{Gave, nothing, headed, timed, lacking, trafBox, trafBoxes, wrapTraf}
+use Rattle.state.specs.Traf.{Gave, nothing, headed, timed, lacking}
 use Rattle.state.specs.declared.Span.{Span}
 use Rattle.state.specs.declared.Seen.{Seen}
 use Rattle.state.specs.declared.Track.{Track}
 use Rattle.state.specs.declared.Track.the-variants as track
-use Rattle.state.specs.declared.TrafSo.{TrafSo}
 use Rattle.state.specs.declared.TrafBody.{TrafBody}
 use Rattle.state.specs.declared.TrafBoxes.{TrafBoxes}
 use Rattle.traf.specs.declared.Given.{Given}
@@ -56,14 +52,3 @@ timedTrack track.Timed = true
 -- what a `traf` lacks, shown beside a refusal at its last byte
 abbrev pub besideTraf : Span → Track → ℕ → List Refusal
 besideTraf span t n = pick (eqb n (span .end)) (lacking (span .pos) t) []
-
--- the answer of a box's body, of a header that was read, and of a byte of a header, in the list: `n` bytes up to the one at hand
-module _ (id : ℕ) (span : Span) (so : TrafSo) (n : ℕ) where
-  abbrev pub afterBody : Sub TrafBody Gave Flow Left → Sub TrafBoxes Seen Flow Left
-  afterBody r = liftBox (trafBoxes id span) wrapTraf so n (liftBody (trafBox id (span .end) so) r)
-
-  abbrev pub afterHeader : Header → Flow → Sub TrafBoxes Seen Flow Left
-  afterHeader h f = liftBox (trafBoxes id span) wrapTraf so n (headedBox (trafBox id (span .end) so) h f n)
-
-  abbrev pub afterHead : Sub Head Header Flow Left → Sub TrafBoxes Seen Flow Left
-  afterHead r = liftBox (trafBoxes id span) wrapTraf so n (lift inHead (λ h f. headedBox (trafBox id (span .end) so) h f n) bad r)

@@ -17,7 +17,7 @@ use state::TrafPart;
 use state::TrafSo;
 ghost use Prim.Native.Nat.{ℕ, _+_, _<_, _≤_};
 ghost use mathlib.Core.Path.{_≡_};
-ghost use mathlib.Core.Bool.{_&&_};
+ghost use mathlib.Core.Bool.{not, _&&_};
 ghost use mathlib.Core.List.{[], _++_};
 ghost use lib.Dec.{ltb};
 ghost use Rattle.basics.specs.Choose.{pick};
@@ -25,7 +25,7 @@ ghost use Rattle.segment.specs.Constants.{limit, timeLimit};
 ghost use Rattle.machine.specs.Faults.{lowest};
 ghost use Rattle.machine.specs.Heads.{sizeFaults};
 ghost use Rattle.machine.specs.Lists.{goOn};
-ghost use Rattle.header.specs.Views.{viewHead};
+ghost use Rattle.header.specs.Views.{viewHead, afterBody, afterHeader, afterHead};
 ghost use Rattle.header.specs.Flaws.{flawOf};
 ghost use Rattle.state.specs.Flow.{Flow};
 ghost use Rattle.state.specs.Rows.{fresh, headedTrack, trafFaults};
@@ -33,7 +33,7 @@ ghost use Rattle.state.specs.Traf.{nothing, timed, reference, skipTraf, restFro
 ghost use Rattle.state.specs.Ranges.{Within, trafBodyBounds, trafBounds};
 ghost use Rattle.state.specs.declared.TrafBody.the-variants as body;
 ghost use Rattle.state.specs.declared.TrafPart.the-variants as part;
-ghost use Rattle.traf.specs.Views.{gaveOf, viewBody, refusalBody, viewTraf, timedTrack, besideTraf, afterBody, afterHeader, afterHead};
+ghost use Rattle.traf.specs.Views.{gaveOf, viewBody, refusalBody, viewTraf, timedTrack, besideTraf};
 
 // The types of the boxes that a `traf` knows.
 const TFHD: u64 = 1952868452;
@@ -255,6 +255,19 @@ fn may_time(t: Track) -> bool
     }
 }
 
+// The number that a `tfhd` or a `tfdt` shows by its length, and else by whether it may come, or 0.
+fn part_flaw(body: u64, may: bool) -> u64
+    ensures { λ r. ⌜ r ≡ pick (ltb body 8) 6 (pick (not may) 16 0) ⌝ }
+{
+    if body < 8 {
+        return 6;
+    }
+    if may {
+        return 0;
+    }
+    16
+}
+
 // The lowest number of the faults that a header shows in a `traf`, or 0.
 fn traf_flaw(t: Track, h: Header) -> u64
     requires { ⌜ h .head ≤ h .size ⌝ }
@@ -262,22 +275,10 @@ fn traf_flaw(t: Track, h: Header) -> u64
 {
     let body = h.size - h.head;
     if h.kind == TFHD {
-        if body < 8 {
-            return 6;
-        }
-        if may_head(t) {
-            return 0;
-        }
-        return 16;
+        return part_flaw(body, may_head(t));
     }
     if h.kind == TFDT {
-        if body < 8 {
-            return 6;
-        }
-        if may_time(t) {
-            return 0;
-        }
-        return 16;
+        return part_flaw(body, may_time(t));
     }
     if h.kind == TFAD {
         return 17;
@@ -415,7 +416,7 @@ fn refused_body(r: BodyStep) -> Refusal
 
 // What the body of a box answers, in the list.
 fn after_body(span: Span, so: TrafSo, r: BodyStep, n: u64) -> TrafStep
-    ensures { λ q. ⌜ ((id : ℕ) (f : Flow) → viewTraf f q ≡ afterBody id span so n (viewBody f r)) ⌝ }
+    ensures { λ q. ⌜ ((id : ℕ) (f : Flow) → viewTraf f q ≡ afterBody (trafBoxes id span) wrapTraf so n (viewBody f r)) ⌝ }
 {
     let BodyStep::Taken(body) = r else {
         let track = so.track;
@@ -440,7 +441,7 @@ fn box_flaw(end: u64, t: Track, h: Header) -> u64
 
 // The header of a box is read: `n` bytes up to its last.
 fn after_header(span: Span, so: TrafSo, h: Header, n: u64) -> TrafStep
-    ensures { λ r. ⌜ ((id : ℕ) (f : Flow) → viewTraf f r ≡ afterHeader id span so n h f) ⌝ }
+    ensures { λ r. ⌜ ((id : ℕ) (f : Flow) → viewTraf f r ≡ afterHeader (trafBoxes id span) wrapTraf so n h f) ⌝ }
 {
     let track = so.track;
     let end = span.end;
@@ -457,7 +458,7 @@ fn after_header(span: Span, so: TrafSo, h: Header, n: u64) -> TrafStep
 
 // What a byte of a header answers, in the list.
 fn after_head(span: Span, so: TrafSo, r: HeadStep, n: u64) -> TrafStep
-    ensures { λ q. ⌜ ((id : ℕ) (f : Flow) → viewTraf f q ≡ afterHead id span so n (viewHead f r)) ⌝ }
+    ensures { λ q. ⌜ ((id : ℕ) (f : Flow) → viewTraf f q ≡ afterHead (trafBoxes id span) wrapTraf so n (viewHead f r)) ⌝ }
 {
     let HeadStep::Taken(head) = r else {
         let track = so.track;

@@ -1,15 +1,25 @@
--- `header::kind_byte` meets its contract, by those of `spelled` and `sized_by`, and by the laws `kind-last` and `kind-more`.
-use mathlib.Core.Path.{sym, _∙_}
-use Rattle.header.proofs.Steps.{kind-last, kind-more}
+-- `header::kind_byte` meets its contract, by those of `spelled` and `sized_by`, by the law `one-fewer`, and by the definition of `stepHead`.
+use Prim.Native.Nat.{_+_, _*_}
+use mathlib.Core.Path.{refl}
+use Rattle.machine.specs.Run.{go}
+use Rattle.machine.specs.Heads.{stepHead}
+use Rattle.machine.specs.declared.Head.the-variants as at
+use Rattle.state.specs.Flow.{left}
+use Rattle.header.proofs.Steps.{one-fewer}
 use borrow.Author.Needs.{needs}
 use Rattle.header.proofs.kind_byte.Statement.{statement}
 use Rattle.header.proofs.kind_byte.Tie as tie
 
 returns : tie.Need-returns
-returns c = λ f. c .sized-by .ensures f ∙ rw (c .before .before .spelled .ensures) (sym (kind-last _ f _ _ _ _ _ _ (c .before .if1 .taken)))
+unfolding stepHead
+returns c = λ f. rw (c .before .if1 .taken, ← c .before .before .spelled .ensures) (c .sized-by .ensures f)
 
 returns-2 : tie.Need-returns-2
-returns-2 c = λ f. rw (c .before .spelled .ensures) (sym (kind-more _ f _ _ _ _ _ _ (c .if1 .left)))
+unfolding stepHead
+returns-2 c =
+    let a = c .before .before .args in
+    λ f. rw (c .before .spelled .ensures)
+    (one-fewer (λ m. stepHead left (a .end) (at.Kind (a .pos) (a .size) m (a .acc)) f (a .n) (a .b)) (λ m. go (at.Kind (a .pos) (a .size) m (a .acc * 256 + a .b)) f) (λ m. refl) (a .more) (c .if1 .left))
 
 pub kind-byte-spec : {M : Type 1} → statement M
 kind-byte-spec = tie.close (tie.spec (search needs) (search needs) returns (search needs) returns-2)

@@ -8,8 +8,5 @@ use Rattle.header.proofs.refused_head.Tie as tie
 returns : tie.Need-returns
 returns c = sym (ap refusalHead (c .enum-told .given .1))
 
-returns-2 : tie.Need-returns-2
-returns-2 c = sym (ap refusalHead (c .before .r .given .1))
-
 pub refused-head-spec : {M : Type 1} → statement M
-refused-head-spec = tie.close (tie.spec (search needs) (search needs) returns returns-2)
+refused-head-spec = tie.close (tie.spec (search needs) (search needs) returns (λ c. search needs))

@@ -1,11 +1,16 @@
--- `index::field_byte` meets its contract, by those of `spelled`, `field_end` and `next_field`, and by the laws `field-small`, `field-ended`,
--- `field-last` and `field-on`.
-use mathlib.Core.Path.{_∙_}
+-- `index::field_byte` meets its contract, by those of `spelled`, `field_end` and `next_field`, by the laws `field-small`, `field-ended` and
+-- `one-fewer`, and by the definition of `stepSidx`.
+use Prim.Native.Nat.{_+_, _*_}
+use mathlib.Core.Path.{refl}
+use native.Mathlib.Numerals.{add-one}
 use native.Mathlib.Omega.{arith}
+use Rattle.machine.specs.Run.{go}
 use Rattle.state.specs.Calls.{flowOf}
+use Rattle.state.specs.Sidx.{stepSidx}
+use Rattle.state.specs.declared.Sidx.the-variants as sidx
 use Rattle.index.specs.Views.{placeOf}
 use Rattle.index.proofs.Numbers.{field-small, field-ended}
-use Rattle.index.proofs.Steps.{field-last, field-on}
+use Rattle.header.proofs.Steps.{one-fewer}
 use borrow.Author.Needs.{needs}
 use Rattle.index.proofs.field_byte.Statement.{statement}
 use Rattle.index.proofs.field_byte.Tie as tie
@@ -23,21 +28,22 @@ field-end-requires c κs =
     )
 
 returns : tie.Need-returns
+unfolding stepSidx
 returns c =
-    let test = c .before in
-    let spelt = test .before in
-    let a = spelt .before .args in
-    λ leaves last work table. c .field-end .ensures leaves last work table
-    ∙ field-last (placeOf (a .p)) (a .span) (a .n) (a .b) _ (a .part) (a .draft) (a .more) (a .acc) (flowOf leaves (a .at) last work table) (spelt .spelled .ensures)
-    (test .if1 .taken)
+    let spelt = c .before .before in
+    λ leaves last work table.
+    rw (c .before .if1 .taken, ← add-one (spelt .before .args .n), ← spelt .spelled .ensures) (c .field-end .ensures leaves last work table)
 
 returns-2 : tie.Need-returns-2
+unfolding stepSidx
 returns-2 c =
-    let test = c .before in
-    let spelt = test .before in
+    let spelt = c .before .before in
     let a = spelt .before .args in
-    λ leaves last work table. rw (c .next-field .ensures)
-    (field-on (placeOf (a .p)) (a .span) (a .n) (a .b) _ (a .part) (a .draft) (a .more) (a .acc) (flowOf leaves (a .at) last work table) (spelt .spelled .ensures) (test .if1 .left))
+    λ leaves last work table.
+    let f = flowOf leaves (a .at) last work table in
+    rw (c .next-field .ensures, spelt .spelled .ensures)
+    (one-fewer (λ m. stepSidx (placeOf (a .p)) (a .span) (sidx.Field (a .part) (a .draft) m (a .acc)) f (a .n) (a .b)) (λ m. go (sidx.Field (a .part) (a .draft) m (a .acc * 256 + a .b)) f)
+    (λ m. refl) (a .more) (c .before .if1 .left))
 
 pub field-byte-spec : {M : Type 1} → statement M
 field-byte-spec =

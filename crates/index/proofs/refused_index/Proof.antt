@@ -8,8 +8,5 @@ use Rattle.index.proofs.refused_index.Tie as tie
 returns : tie.Need-returns
 returns c = sym (ap refusalIndex (c .enum-told .given .1))
 
-returns-2 : tie.Need-returns-2
-returns-2 c = sym (ap refusalIndex (c .before .r .given .1))
-
 pub refused-index-spec : {M : Type 1} → statement M
-refused-index-spec = tie.close (tie.spec (search needs) (search needs) returns returns-2)
+refused-index-spec = tie.close (tie.spec (search needs) (search needs) returns (λ c. search needs))

@@ -1,18 +1,11 @@
 -- `next_stage::opening_after` meets its contract, by that of `index_ends`, and by the definition of `lift`.
-use mathlib.Core.Path.{subst}
 use Rattle.machine.specs.Run.{lift}
-use Rattle.opening.specs.declared.OpeningStep.{OpeningStep}
-use Rattle.next_stage.specs.Arms.{EndsIn}
 use borrow.Author.Needs.{needs}
 use Rattle.next_stage.proofs.opening_after.Statement.{statement}
 use Rattle.next_stage.proofs.opening_after.Tie as tie
 
 index-ends-requires : tie.Need-index-ends-requires
-index-ends-requires c κs =
-    let arm = c .before in
-    let start = arm .before .before in
-    let a = start .args in
-    subst (λ (q : OpeningStep). EndsIn (a .n) q) (arm .q2 .given .1) (start .pre)
+index-ends-requires c κs = rw (c .before .q2 .given .1) at (c .before .before .before .pre)
 
 returns : tie.Need-returns
 unfolding lift

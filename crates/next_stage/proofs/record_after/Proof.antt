@@ -1,8 +1,4 @@
--- `next_stage::record_after` meets its contract, by those of `leaf_record` and `put_record`, and by the definition of `tableAfter`.
-use mathlib.Core.Path.{ap, sym, _∙_}
-use Rattle.table.specs.declared.Record.{Record}
-use Rattle.table.specs.Table.{putRecord}
-use Rattle.leaf.specs.declared.LeafStep.{LeafStep}
+-- `next_stage::row_after` meets its contract, by that of `put_row`, and by the definition of `tableAfter`.
 use Rattle.next_stage.specs.Arms.{tableAfter}
 use borrow.Author.Needs.{needs}
 use Rattle.next_stage.proofs.record_after.Statement.{statement}
@@ -10,25 +6,15 @@ use Rattle.next_stage.proofs.record_after.Tie as tie
 
 returns : tie.Need-returns
 unfolding tableAfter
-returns c =
-    let a = c .before .before .before .args in
-    sym (ap (λ (q : LeafStep). tableAfter (a .leaves) (a .slot) (a .at) q (a .table .now)) (c .enum-told .given .1))
+returns c = rw (c .enum-told .given .1)
 
 returns-2 : tie.Need-returns-2
 unfolding tableAfter
-returns-2 c =
-    let at-put = c .before .before in
-    let at-record = at-put .before in
-    let arm = at-record .before .before .before in
-    let a = arm .before .before .before .args in
-    at-put .put-record .ensures ∙ ap (λ (r : Record). putRecord (a .table .now) (a .leaves) r) (at-record .leaf-record .ensures)
-    ∙ sym (ap (λ (q : LeafStep). tableAfter (a .leaves) (a .slot) (a .at) q (a .table .now)) (arm .q .given .1))
+returns-2 c = let at-put-row = c .before .before in rw (at-put-row .before .before .before .q .given .1) (at-put-row .put-row .ensures)
 
 returns-3 : tie.Need-returns-3
 unfolding tableAfter
-returns-3 c =
-    let a = c .before .before .before .args in
-    sym (ap (λ (q : LeafStep). tableAfter (a .leaves) (a .slot) (a .at) q (a .table .now)) (c .enum-told2 .given .1))
+returns-3 c = rw (c .enum-told2 .given .1)
 
 pub record-after-spec : {M : Type 1} → statement M
 record-after-spec =

@@ -1,14 +1,14 @@
--- `opening::body_byte` meets its contract, by those of `opening_skip`, `styp_byte`, `index_byte` and `opening_index`, by the laws `spelled-small`,
--- `skip-step` and `index-step`, and by the definition of `openingBodyBounds`.
-use Prim.Native.Nat.{_+_}
-use mathlib.Core.Path.{ap, subst, _∙_}
+-- `opening::body_byte` meets its contract, by those of `opening_skip`, `styp_byte`, `index_byte` and `opening_index`, by the laws `spelled-small`
+-- and `index-step`, and by the definitions of `openingBodyBounds` and `stepOpeningBody`.
+use mathlib.Core.Path.{subst, _∙_}
 use native.Mathlib.Omega.{arith}
+use native.Mathlib.Numerals.{add-one}
 use Rattle.state.specs.Calls.{flowOf}
+use Rattle.state.specs.Opening.{stepOpeningBody}
 use Rattle.state.specs.Ranges.{Within, openingBodyBounds}
 use Rattle.state.specs.declared.OpeningBody.{OpeningBody}
 use Rattle.header.proofs.Steps.{spelled-small}
-use Rattle.opening.specs.Views.{bodyOpening}
-use Rattle.opening.proofs.OpeningSteps.{skip-step, index-step}
+use Rattle.opening.proofs.OpeningSteps.{index-step}
 use borrow.Author.Needs.{needs}
 use Rattle.opening.proofs.body_byte.Statement.{statement}
 use Rattle.opening.proofs.body_byte.Tie as tie
@@ -34,13 +34,11 @@ index-byte-requires c κs =
     )
 
 returns : tie.Need-returns
+unfolding stepOpeningBody
 returns c =
     let arm = c .before .before in
-    let a = arm .before .before .before .args in
     λ leaves at last table.
-    rw (arm .s .given .1)
-    (c .opening-skip .ensures _ (flowOf leaves at last _ table)
-    ∙ ap (bodyOpening (a .brand) (a .branded) (a .n + 1)) (skip-step _ (a .branded) _ _ (a .b) _))
+    rw (arm .s .given .1, ← add-one (arm .before .before .before .args .n)) (c .opening-skip .ensures _ (flowOf leaves at last _ table))
 
 returns-2 : tie.Need-returns-2
 returns-2 c = λ leaves at last table. rw (c .before .before .s2 .given .1) (c .styp-byte .ensures (flowOf leaves at last _ table))

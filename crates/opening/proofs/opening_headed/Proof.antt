@@ -1,20 +1,34 @@
--- `opening::opening_headed` meets its contract, by those of `opening_flaw` and `opening_begin`, and by the laws `opening-fits`, `opening-refused` and
--- `opening-begun`.
+-- `opening::opening_headed` meets its contract, by those of `opening_flaw` and `opening_begin`, by the laws `headed-bad`, `headed-good`, `flawless`
+-- and `opening-placed`, and by the definitions of `lift` and `lowest`.
 use mathlib.Core.Path.{sym, _∙_}
-use Rattle.opening.proofs.OpeningFlaws.{opening-fits}
-use Rattle.opening.proofs.OpeningSteps.{opening-refused, opening-begun}
 use borrow.Author.Needs.{needs}
+use Rattle.segment.specs.Constants.{limit}
+use Rattle.machine.specs.Faults.{lowest}
+use Rattle.machine.specs.Run.{lift}
+use Rattle.state.specs.Opening.{openingBox}
+use Rattle.header.proofs.Flaws.{flawless}
+use Rattle.header.proofs.Lists.{headed-bad, headed-good}
+use Rattle.opening.proofs.Flaws.{opening-placed}
 use Rattle.opening.proofs.opening_headed.Statement.{statement}
 use Rattle.opening.proofs.opening_headed.Tie as tie
 
 returns : tie.Need-returns
-returns c = λ brand f. opening-refused brand _ _ _ _ f (c .before .opening-flaw .ensures) (c .if1 .taken)
+unfolding lift lowest
+returns c =
+    let a = c .before .before .args in
+    λ brand f. rw (headed-bad (openingBox brand (a .branded)) (a .h) f (a .m) _ (opening-placed (a .branded) (a .h)) (c .before .opening-flaw .ensures) (c .if1 .taken))
 
 opening-begin-requires : tie.Need-opening-begin-requires
-opening-begin-requires c κs = opening-fits _ _ (sym (c .before .opening-flaw .ensures) ∙ c .if1 .left)
+opening-begin-requires c κs =
+    let a = c .before .before .args in
+    flawless limit (a .h) _ (opening-placed (a .branded) (a .h)) (sym (c .before .opening-flaw .ensures) ∙ c .if1 .left) .1
 
 returns-2 : tie.Need-returns-2
-returns-2 c = λ brand f. c .opening-begin .ensures brand f ∙ opening-begun brand _ _ _ _ f (c .before .before .opening-flaw .ensures) (c .before .if1 .left)
+returns-2 c =
+    let test = c .before in
+    let a = test .before .before .args in
+    λ brand f. rw (headed-good (openingBox brand (a .branded)) (a .h) f (a .m) _ (opening-placed (a .branded) (a .h)) (test .before .opening-flaw .ensures) (test .if1 .left))
+    (c .opening-begin .ensures brand f)
 
 pub opening-headed-spec : {M : Type 1} → statement M
 opening-headed-spec = tie.close (tie.spec (search needs) returns opening-begin-requires returns-2)

@@ -1,30 +1,31 @@
--- `opening::styp_byte` meets its contract, by those of `spelled` and `styp_end`, by the laws `styp-last` and `styp-more`, and by the definition of
--- `lift`.
-use Prim.Native.Nat.{_+_}
-use mathlib.Core.Path.{ap, _∙_}
-use Rattle.machine.specs.Run.{lift}
+-- `opening::styp_byte` meets its contract, by those of `spelled` and `styp_end`, by the law `one-fewer`, and by the definitions of `stepOpeningBody`
+-- and `lift`.
 use Rattle.opening.specs.Views.{bodyOpening}
-use Rattle.opening.proofs.OpeningSteps.{styp-last, styp-more}
 use borrow.Author.Needs.{needs}
+use Prim.Native.Nat.{_+_, _*_}
+use mathlib.Core.Path.{refl}
+use native.Mathlib.Numerals.{add-one}
+use Rattle.machine.specs.Run.{go, lift}
+use Rattle.state.specs.Opening.{stepOpeningBody}
+use Rattle.state.specs.declared.OpeningBody.the-variants as body
+use Rattle.state.specs.declared.OpeningBoxes.the-variants as boxes
+use Rattle.header.proofs.Steps.{one-fewer}
 use Rattle.opening.proofs.styp_byte.Statement.{statement}
 use Rattle.opening.proofs.styp_byte.Tie as tie
 
 returns : tie.Need-returns
+unfolding stepOpeningBody
 returns c =
-    let test = c .before in
-    let spelt = test .before in
-    let a = spelt .before .args in
-    λ f.
-    c .styp-end .ensures f
-    ∙ rw (spelt .spelled .ensures) (ap (bodyOpening (a .brand) (a .branded) (a .n + 1)) (styp-last _ (a .branded) f _ _ _ _ _ _ _ (test .if1 .taken)))
+    let spelt = c .before .before in
+    λ f. rw (c .before .if1 .taken, ← add-one (spelt .before .args .n), ← spelt .spelled .ensures) (c .styp-end .ensures f)
 
 returns-2 : tie.Need-returns-2
-unfolding lift
+unfolding lift stepOpeningBody
 returns-2 c =
-    let spelt = c .before in
-    let a = spelt .before .args in
-    λ f.
-    rw (spelt .spelled .ensures) (ap (bodyOpening (a .brand) (a .branded) (a .n + 1)) (styp-more (a .brand) (a .branded) f (a .n) _ _ _ _ _ _ (c .if1 .left)))
+    let a = c .before .before .args in
+    λ f. rw (c .before .spelled .ensures)
+    (one-fewer (λ m. bodyOpening (a .brand) (a .branded) (a .n + 1) (stepOpeningBody (a .brand) (body.Styp (a .span) (a .part) (a .listed) m (a .acc)) f (a .n) (a .b)))
+    (λ m. go (boxes.Body (a .branded) (body.Styp (a .span) (a .part) (a .listed) m (a .acc * 256 + a .b))) f) (λ m. refl) (a .more) (c .if1 .left))
 
 pub styp-byte-spec : {M : Type 1} → statement M
 styp-byte-spec = tie.close (tie.spec (search needs) (search needs) (search needs) returns (search needs) returns-2)

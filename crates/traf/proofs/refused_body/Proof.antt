@@ -8,8 +8,5 @@ use Rattle.traf.proofs.refused_body.Tie as tie
 returns : tie.Need-returns
 returns c = sym (ap refusalBody (c .enum-told .given .1))
 
-returns-2 : tie.Need-returns-2
-returns-2 c = sym (ap refusalBody (c .before .r .given .1))
-
 pub refused-body-spec : {M : Type 1} → statement M
-refused-body-spec = tie.close (tie.spec (search needs) (search needs) returns returns-2)
+refused-body-spec = tie.close (tie.spec (search needs) (search needs) returns (λ c. search needs))

@@ -1,55 +1,37 @@
--- `traf::traf_byte` meets its contract, by those of `head_byte`, `after_head`, `body_byte` and `after_body`, and by the definitions of `trafBounds`,
--- `stepTraf` and `stepBox`.
-use Prim.Native.Nat.{ℕ, _+_}
-use mathlib.Core.Path.{ap, sym, subst, _∙_}
-use native.Mathlib.Numerals.{add-one}
-use Rattle.machine.specs.Lists.{stepBox}
-use Rattle.machine.specs.Heads.{stepHead}
-use Rattle.state.specs.Flow.{left}
-use Rattle.state.specs.Traf.{stepTrafBody, stepTraf}
-use Rattle.state.specs.Ranges.{Within, trafBounds}
-use Rattle.state.specs.declared.TrafBoxes.{TrafBoxes}
-use Rattle.traf.specs.Views.{afterBody, afterHead}
+-- `traf::traf_byte` meets its contract, by those of `head_byte`, `after_head`, `body_byte` and `after_body`, by the laws `head-step` and
+-- `body-step`, and by the definitions of `trafBounds` and `stepTraf`.
+use mathlib.Core.Path.{ap, _∙_}
+use Rattle.state.specs.Ranges.{trafBounds}
+use Rattle.header.specs.Views.{afterHead, afterBody}
+use Rattle.state.specs.Traf.{stepTraf, trafBoxes, wrapTraf}
+use Rattle.header.proofs.Lists.{head-step, body-step}
 use borrow.Author.Needs.{needs}
 use Rattle.traf.proofs.traf_byte.Statement.{statement}
 use Rattle.traf.proofs.traf_byte.Tie as tie
 
 head-byte-requires : tie.Need-head-byte-requires
 unfolding trafBounds
-head-byte-requires c κs =
-    let arm = c .before in
-    let asked = arm .before .before .pre in
-    (subst (λ (q : TrafBoxes). Within (trafBounds q)) (arm .s .given .1) (asked .0), asked .1)
+head-byte-requires c κs = (rw (c .before .s .given .1) at (c .before .before .before .pre .0), c .before .before .before .pre .1)
 
 body-byte-requires : tie.Need-body-byte-requires
 unfolding trafBounds
-body-byte-requires c κs =
-    let arm = c .before in
-    let asked = arm .before .before .pre in
-    (asked .1, subst (λ (q : TrafBoxes). Within (trafBounds q)) (arm .s2 .given .1) (asked .0))
+body-byte-requires c κs = (c .before .before .before .pre .1, rw (c .before .s2 .given .1) at (c .before .before .before .pre .0))
 
 returns : tie.Need-returns
-unfolding stepTraf stepBox
+unfolding stepTraf
 returns c =
-    let headed = c .before in
-    let arm = headed .before .before in
-    let a = arm .before .before .args in
-    λ f. c .after-head .ensures (a .id) f
-    ∙ ap (afterHead (a .id) (a .span) (arm .s .given .0 .0) (a .n + 1)) (headed .head-byte .ensures f)
-    ∙ ap (λ (m : ℕ). afterHead (a .id) (a .span) (arm .s .given .0 .0) m (stepHead left (a .span .end) (arm .s .given .0 .1 .0) f (a .n) (a .b))) (add-one (a .n))
-    ∙ sym (ap (λ (q : TrafBoxes). stepTraf (a .id) (a .span) q f (a .n) (a .b)) (arm .s .given .1))
+    let arm = c .before .before .before in
+    let l = trafBoxes (arm .before .before .args .id) (arm .before .before .args .span) in
+    λ f. rw (arm .s .given .1)
+    (c .after-head .ensures _ f ∙ ap (afterHead l wrapTraf _ _) (c .before .head-byte .ensures f) ∙ head-step l wrapTraf _ f _ _ _)
 
 returns-2 : tie.Need-returns-2
-unfolding stepTraf stepBox
+unfolding stepTraf
 returns-2 c =
-    let stepped = c .before in
-    let arm = stepped .before .before in
-    let a = arm .before .before .args in
-    λ f. c .after-body .ensures (a .id) f
-    ∙ ap (afterBody (a .id) (a .span) (arm .s2 .given .0 .0) (a .n + 1)) (stepped .body-byte .ensures f)
-    ∙ ap (λ (m : ℕ). afterBody (a .id) (a .span) (arm .s2 .given .0 .0) m (stepTrafBody (a .id) (arm .s2 .given .0 .0 .track) (arm .s2 .given .0 .1 .0) f (a .n) (a .b)))
-    (add-one (a .n))
-    ∙ sym (ap (λ (q : TrafBoxes). stepTraf (a .id) (a .span) q f (a .n) (a .b)) (arm .s2 .given .1))
+    let arm = c .before .before .before in
+    let l = trafBoxes (arm .before .before .args .id) (arm .before .before .args .span) in
+    λ f. rw (arm .s2 .given .1)
+    (c .after-body .ensures _ f ∙ ap (afterBody l wrapTraf _ _) (c .before .body-byte .ensures f) ∙ body-step l wrapTraf _ f _ _ _)
 
 pub traf-byte-spec : {M : Type 1} → statement M
 traf-byte-spec =
