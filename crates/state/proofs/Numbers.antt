@@ -9,16 +9,14 @@ use lib.Seq.{length-take-le, drop-drop}
 use Rattle.basics.specs.Bytes.{numberFrom}
 use Rattle.segment.specs.Constants.{limit}
 use Rattle.machine.specs.Faults.{unless}
-use Rattle.machine.specs.Run.{go, lift}
+use Rattle.machine.specs.Run.{Sub, go, lift}
 use Rattle.machine.specs.Heads.{stepHead}
-use Rattle.machine.specs.Lists.{Box, inHead, Kind, stepBox, Boxes, stepBoxes}
+use Rattle.machine.specs.Lists.{Box, inHead, stepBox, Boxes, stepBoxes}
 use Rattle.machine.specs.declared.Head.{Head}
 use Rattle.machine.specs.declared.Head.the-variants as at
 use Rattle.state.specs.declared.Track.{Track}
 use Rattle.state.specs.declared.Span.{Span}
 use Rattle.state.specs.declared.Slot.{Slot}
-use Rattle.state.specs.declared.Top.{Top}
-use Rattle.state.specs.declared.Levels.{Levels}
 use Rattle.state.specs.declared.Sidx.{Sidx}
 use Rattle.state.specs.declared.Sidx.the-variants as sidx
 use Rattle.state.specs.declared.TrafBody.{TrafBody}
@@ -39,7 +37,6 @@ use Rattle.state.specs.declared.OpeningBoxes.{OpeningBoxes}
 use Rattle.state.specs.declared.OpeningBoxes.the-variants as openingBox
 use Rattle.state.specs.declared.GapBoxes.{GapBoxes}
 use Rattle.state.specs.declared.GapBoxes.the-variants as gaps
-use Rattle.state.specs.declared.InnerBox.{InnerBox}
 use Rattle.state.specs.declared.InnerBox.the-variants as inners
 use Rattle.state.specs.declared.Stage.{Stage}
 use Rattle.state.specs.declared.Stage.the-variants as stage
@@ -52,7 +49,7 @@ use Rattle.state.specs.Leaf.{stepMoofBody, moofBoxes, wrapMoof, stepMoof
 use Rattle.state.specs.Opening.{stepOpeningBody, opening, wrapOpening, stepOpening}
 use Rattle.state.specs.Stages.{gapBoxes, wrapGap, stepGap, stepStage}
 use Rattle.state.specs.Step.{World, reading, settle, step, run}
-use Rattle.state.specs.Numbers.{Number, headNumber, sidxNumber, trafBodyNumber, trafNumber, moofBodyNumber, moofNumber, leafBodyNumber, leafNumber, openingBodyNumber, openingNumber, gapNumber, innerNumber, stageNumber, stageOn, workOn, putIn, Short}
+use Rattle.state.specs.Numbers.{Number, absent, inside, headNumber, sidxNumber, trafBodyNumber, trafNumber, moofBodyNumber, moofNumber, leafBodyNumber, leafNumber, openingBodyNumber, openingNumber, gapNumber, innerNumber, stageNumber, stageOn, workOn, putIn, Short}
 use Rattle.state.proofs.Jump.{body-moves, past-none}
 
 -- what a byte leaves in what flows, told how many follow it; and what some bytes leave, told how many follow the first of them
@@ -64,6 +61,35 @@ unfoldable keepAll : Option ℕ → ℕ → Flow → List ℕ → Flow
 keepAll place more f [] = f
 keepAll place more f (b ∷ bs) = keepAll place (more - 1) (keepIn place more f b) bs
 
+-- The phase `s` of a machine reads the number `x`: with what is read of the number it is itself, and a byte of the number that is not its
+-- last spells on and does nothing else.
+record Spells {S R : Type 0} (step : S → Flow → ℕ → ℕ → Sub S R Flow Left) (x : Number S) (s : S) : Type 0 where
+  same : x .again (x .more) (x .acc) ≡ s
+  on : 0 < x .more → (f : Flow) (n b m a : ℕ) → step (x .again (suc m) a) f n b ≡ go (x .again m (a * 256 + b)) (keepIn (x .place) (suc m) f b)
+
+-- no number is being read
+absent-spells : {S R : Type 0} (step : S → Flow → ℕ → ℕ → Sub S R Flow Left) (s : S) → Spells step (absent s) s
+absent-spells step s = record { same = refl; on = λ going f n b m a. absurd (omega arith) }
+
+-- a machine inside another, whose byte is the other's
+module _ {S T R Q : Type 0} (inner : S → Flow → ℕ → ℕ → Sub S R Flow Left) (step : T → Flow → ℕ → ℕ → Sub T Q Flow Left) (wrap : S → T)
+    (moves : (s s' : S) (f g : Flow) (n b : ℕ) → inner s f n b ≡ go s' g → step (wrap s) f n b ≡ go (wrap s') g) where
+  inside-spells : (x : Number S) (s : S) → Spells inner x s → Spells step (inside wrap x) (wrap s)
+  inside-spells x s k = record { same = ap wrap (k .same); on = λ going f n b m a. moves _ _ f _ n b (k .on going f n b m a) }
+
+-- The number at hand, at each level.
+head-spells : (end : ℕ) (h : Head) → Spells (stepHead left end) (headNumber h) h
+unfolding headNumber stepHead keepIn
+head-spells end at.First = absent-spells _ at.First
+head-spells end (at.Size pos more acc) = record { same = refl; on = λ going f n b m a. refl }
+head-spells end (at.Kind pos size more acc) = record { same = refl; on = λ going f n b m a. refl }
+head-spells end (at.Large pos kind more acc) = record { same = refl; on = λ going f n b m a. refl }
+
+sidx-spells : (p : Place) (span : Span) (s : Sidx) → Spells (stepSidx p span) (sidxNumber p s) s
+unfolding sidxNumber stepSidx keepIn
+sidx-spells p span (sidx.Field i d more acc) = record { same = refl; on = λ going f n b m a. refl }
+sidx-spells p span (sidx.Entry e d s more acc) = record { same = refl; on = λ going f n b m a. refl }
+
 -- a list of boxes moves on as the header of its box does
 module _ {A B R Q S : Type 0} (l : Boxes A B R Q Flow Left) (wrap : A → Box B → S) where
   head-moves : (a : A) (h h' : Head) (f g : Flow) (n b : ℕ) → stepHead (l .box a .left) (l .box a .end) h f n b ≡ go h' g →
@@ -71,99 +97,70 @@ module _ {A B R Q S : Type 0} (l : Boxes A B R Q Flow Left) (wrap : A → Box B 
   unfolding stepBox lift
   head-moves a h h' f g n b e = rw e
 
--- one byte of a number that is not its last, at each level
-module _ (f : Flow) (n b m a : ℕ) where
-  head-spells : (end : ℕ) (h : Head) → 0 < headNumber h .more →
-      stepHead left end (headNumber h .again (suc m) a) f n b ≡ go (headNumber h .again m (a * 256 + b)) (keepIn (headNumber h .place) (suc m) f b)
-  unfolding headNumber stepHead keepIn
-  head-spells end at.First going = absurd (omega arith)
-  head-spells end (at.Size pos more acc) going = refl
-  head-spells end (at.Kind pos size more acc) going = refl
-  head-spells end (at.Large pos kind more acc) going = refl
+traf-body-spells : (id : ℕ) (t : Track) (s : TrafBody) → Spells (stepTrafBody id t) (trafBodyNumber s) s
+unfolding trafBodyNumber stepTrafBody keepIn
+traf-body-spells id t (trafs.Skip stop) = absent-spells _ (trafs.Skip stop)
+traf-body-spells id t (trafs.Rest stop r) = absent-spells _ (trafs.Rest stop r)
+traf-body-spells id t (trafs.Field p more acc) = record { same = refl; on = λ going f n b m a. refl }
 
-  sidx-spells : (p : Place) (span : Span) (s : Sidx) →
-      stepSidx p span (sidxNumber p s .again (suc m) a) f n b ≡ go (sidxNumber p s .again m (a * 256 + b)) (keepIn (sidxNumber p s .place) (suc m) f b)
-  unfolding sidxNumber stepSidx keepIn
-  sidx-spells p span (sidx.Field i d more acc) = refl
-  sidx-spells p span (sidx.Entry e d s more acc) = refl
+traf-spells : (id : ℕ) (span : Span) (s : TrafBoxes) → Spells (stepTraf id span) (trafNumber s) s
+unfolding trafNumber stepTraf
+traf-spells id span (trafBox.Head so h) = inside-spells _ (stepTraf id span) (trafBox.Head so) (head-moves (trafBoxes id span) wrapTraf so) _ h (head-spells (span .end) h)
+traf-spells id span (trafBox.Body so s) = inside-spells _ (stepTraf id span) (trafBox.Body so) (body-moves (trafBoxes id span) wrapTraf so) _ s (traf-body-spells id (so .track) s)
 
-  traf-body-spells : (id : ℕ) (t : Track) (s : TrafBody) → 0 < trafBodyNumber s .more →
-      stepTrafBody id t (trafBodyNumber s .again (suc m) a) f n b ≡ go (trafBodyNumber s .again m (a * 256 + b)) (keepIn (trafBodyNumber s .place) (suc m) f b)
-  unfolding trafBodyNumber stepTrafBody keepIn
-  traf-body-spells id t (trafs.Skip stop) going = absurd (omega arith)
-  traf-body-spells id t (trafs.Rest stop r) going = absurd (omega arith)
-  traf-body-spells id t (trafs.Field p more acc) going = refl
+moof-body-spells : (id : ℕ) (s : MoofBody) → Spells (stepMoofBody id) (moofBodyNumber s) s
+unfolding moofBodyNumber stepMoofBody lift
+moof-body-spells id (moofs.Skip stop) = absent-spells _ (moofs.Skip stop)
+moof-body-spells id (moofs.Traf span s) = inside-spells (stepTraf id span) (stepMoofBody id) (moofs.Traf span) (λ q q' f g n b e. rw e) _ s (traf-spells id span s)
 
-  traf-spells : (id : ℕ) (span : Span) (s : TrafBoxes) → 0 < trafNumber s .more →
-      stepTraf id span (trafNumber s .again (suc m) a) f n b ≡ go (trafNumber s .again m (a * 256 + b)) (keepIn (trafNumber s .place) (suc m) f b)
-  unfolding trafNumber stepTraf
-  traf-spells id span (trafBox.Head so h) going = head-moves (trafBoxes id span) wrapTraf so _ _ f _ n b (head-spells (span .end) h going)
-  traf-spells id span (trafBox.Body so s) going = body-moves (trafBoxes id span) wrapTraf so _ _ f _ n b (traf-body-spells id (so .track) s going)
+moof-spells : (id end : ℕ) (s : MoofBoxes) → Spells (stepMoof id end) (moofNumber s) s
+unfolding moofNumber stepMoof
+moof-spells id end (moofBox.Head seen h) = inside-spells _ (stepMoof id end) (moofBox.Head seen) (head-moves (moofBoxes id end) wrapMoof seen) _ h (head-spells end h)
+moof-spells id end (moofBox.Body seen s) = inside-spells _ (stepMoof id end) (moofBox.Body seen) (body-moves (moofBoxes id end) wrapMoof seen) _ s (moof-body-spells id s)
 
-  moof-body-spells : (id : ℕ) (s : MoofBody) → 0 < moofBodyNumber s .more →
-      stepMoofBody id (moofBodyNumber s .again (suc m) a) f n b ≡ go (moofBodyNumber s .again m (a * 256 + b)) (keepIn (moofBodyNumber s .place) (suc m) f b)
-  unfolding moofBodyNumber stepMoofBody lift
-  moof-body-spells id (moofs.Skip stop) going = absurd (omega arith)
-  moof-body-spells id (moofs.Traf span s) going = rw (traf-spells id span s going)
+leaf-body-spells : (id : ℕ) (s : LeafBody) → Spells (stepLeafBody id) (leafBodyNumber s) s
+unfolding leafBodyNumber stepLeafBody lift
+leaf-body-spells id (leaves.Skip stop) = absent-spells _ (leaves.Skip stop)
+leaf-body-spells id (leaves.Moof end s) = inside-spells (stepMoof id end) (stepLeafBody id) (leaves.Moof end) (λ q q' f g n b e. rw e) _ s (moof-spells id end s)
 
-  moof-spells : (id end : ℕ) (s : MoofBoxes) → 0 < moofNumber s .more →
-      stepMoof id end (moofNumber s .again (suc m) a) f n b ≡ go (moofNumber s .again m (a * 256 + b)) (keepIn (moofNumber s .place) (suc m) f b)
-  unfolding moofNumber stepMoof
-  moof-spells id end (moofBox.Head seen h) going = head-moves (moofBoxes id end) wrapMoof seen _ _ f _ n b (head-spells end h going)
-  moof-spells id end (moofBox.Body seen s) going = body-moves (moofBoxes id end) wrapMoof seen _ _ f _ n b (moof-body-spells id s going)
+leaf-spells : (id : ℕ) (slot : Slot) (s : LeafBoxes) → Spells (stepLeaf id slot) (leafNumber s) s
+unfolding leafNumber stepLeaf
+leaf-spells id slot (leafBox.Head so h) = inside-spells _ (stepLeaf id slot) (leafBox.Head so) (head-moves (leafBoxes id slot) wrapLeaf so) _ h (head-spells (slot .end) h)
+leaf-spells id slot (leafBox.Body so s) = inside-spells _ (stepLeaf id slot) (leafBox.Body so) (body-moves (leafBoxes id slot) wrapLeaf so) _ s (leaf-body-spells id s)
 
-  leaf-body-spells : (id : ℕ) (s : LeafBody) → 0 < leafBodyNumber s .more →
-      stepLeafBody id (leafBodyNumber s .again (suc m) a) f n b ≡ go (leafBodyNumber s .again m (a * 256 + b)) (keepIn (leafBodyNumber s .place) (suc m) f b)
-  unfolding leafBodyNumber stepLeafBody lift
-  leaf-body-spells id (leaves.Skip stop) going = absurd (omega arith)
-  leaf-body-spells id (leaves.Moof end s) going = rw (moof-spells id end s going)
+opening-body-spells : (brand : ℕ) (s : OpeningBody) → Spells (stepOpeningBody brand) (openingBodyNumber s) s
+unfolding openingBodyNumber stepOpeningBody lift keepIn
+opening-body-spells brand (openings.Skip stop) = absent-spells _ (openings.Skip stop)
+opening-body-spells brand (openings.Styp span p listed more acc) = record { same = refl; on = λ going f n b m a. refl }
+opening-body-spells brand (openings.Index span s) = inside-spells (stepSidx topmost span) (stepOpeningBody brand) (openings.Index span) (λ q q' f g n b e. rw e) _ s (sidx-spells topmost span s)
 
-  leaf-spells : (id : ℕ) (slot : Slot) (s : LeafBoxes) → 0 < leafNumber s .more →
-      stepLeaf id slot (leafNumber s .again (suc m) a) f n b ≡ go (leafNumber s .again m (a * 256 + b)) (keepIn (leafNumber s .place) (suc m) f b)
-  unfolding leafNumber stepLeaf
-  leaf-spells id slot (leafBox.Head so h) going = head-moves (leafBoxes id slot) wrapLeaf so _ _ f _ n b (head-spells (slot .end) h going)
-  leaf-spells id slot (leafBox.Body so s) going = body-moves (leafBoxes id slot) wrapLeaf so _ _ f _ n b (leaf-body-spells id s going)
+opening-spells : (brand : ℕ) (s : OpeningBoxes) → Spells (stepOpening brand) (openingNumber s) s
+unfolding openingNumber stepOpening
+opening-spells brand (openingBox.Head branded h) = inside-spells _ (stepOpening brand) (openingBox.Head branded) (head-moves (opening brand) wrapOpening branded) _ h (head-spells limit h)
+opening-spells brand (openingBox.Body branded s) = inside-spells _ (stepOpening brand) (openingBox.Body branded) (body-moves (opening brand) wrapOpening branded) _ s (opening-body-spells brand s)
 
-  opening-body-spells : (brand : ℕ) (s : OpeningBody) → 0 < openingBodyNumber s .more →
-      stepOpeningBody brand (openingBodyNumber s .again (suc m) a) f n b ≡ go (openingBodyNumber s .again m (a * 256 + b)) (keepIn (openingBodyNumber s .place) (suc m) f b)
-  unfolding openingBodyNumber stepOpeningBody lift keepIn
-  opening-body-spells brand (openings.Skip stop) going = absurd (omega arith)
-  opening-body-spells brand (openings.Styp span p listed more acc) going = refl
-  opening-body-spells brand (openings.Index span s) going = rw (sidx-spells topmost span s)
+gap-spells : (end : ℕ) (s : GapBoxes) → Spells (stepGap end) (gapNumber s) s
+unfolding gapNumber stepGap
+gap-spells end (gaps.Head h) = inside-spells _ (stepGap end) gaps.Head (head-moves (gapBoxes end) wrapGap tt) _ h (head-spells end h)
+gap-spells end (gaps.Body stop) = absent-spells _ (gaps.Body stop)
 
-  opening-spells : (brand : ℕ) (s : OpeningBoxes) → 0 < openingNumber s .more →
-      stepOpening brand (openingNumber s .again (suc m) a) f n b ≡ go (openingNumber s .again m (a * 256 + b)) (keepIn (openingNumber s .place) (suc m) f b)
-  unfolding openingNumber stepOpening
-  opening-spells brand (openingBox.Head branded h) going = head-moves (opening brand) wrapOpening branded _ _ f _ n b (head-spells limit h going)
-  opening-spells brand (openingBox.Body branded s) going = body-moves (opening brand) wrapOpening branded _ _ f _ n b (opening-body-spells brand s going)
-
-  gap-spells : (end : ℕ) (s : GapBoxes) → 0 < gapNumber s .more →
-      stepGap end (gapNumber s .again (suc m) a) f n b ≡ go (gapNumber s .again m (a * 256 + b)) (keepIn (gapNumber s .place) (suc m) f b)
-  unfolding gapNumber stepGap
-  gap-spells end (gaps.Head h) going = head-moves (gapBoxes end) wrapGap tt _ _ f _ n b (head-spells end h going)
-  gap-spells end (gaps.Body stop) going = absurd (omega arith)
-
-  inner-spells : (top : Top) (ls : Levels) (slot : Slot) (s : InnerBox) → 0 < innerNumber top ls slot s .more →
-      stepStage (stage.Inner top ls slot (innerNumber top ls slot s .again (suc m) a)) f n b
-      ≡ go (stage.Inner top ls slot (innerNumber top ls slot s .again m (a * 256 + b))) (keepIn (innerNumber top ls slot s .place) (suc m) f b)
-  unfolding innerNumber stepStage stepBox lift
-  inner-spells top ls slot (inners.Head h) going = rw (head-spells (slot .end) h going)
-  inner-spells top ls slot (inners.Body span s) going = rw (sidx-spells (under top slot (depth ls)) span s)
-
-  stage-spells : (s : Stage) → 0 < stageNumber s .more →
-      stepStage (stageNumber s .again (suc m) a) f n b ≡ go (stageNumber s .again m (a * 256 + b)) (keepIn (stageNumber s .place) (suc m) f b)
-  unfolding stageNumber stepStage lift
-  stage-spells (stage.Opening brand s) going = rw (opening-spells brand s going)
-  stage-spells (stage.Gap top l end s) going = rw (gap-spells end s going)
-  stage-spells (stage.Entry top ls) going = absurd (omega arith)
-  stage-spells (stage.Leaf top ls slot s) going = rw (leaf-spells (top .id) slot s going)
-  stage-spells (stage.Inner top ls slot s) going = inner-spells top ls slot s going
+stage-spells : (s : Stage) → Spells stepStage (stageNumber s) s
+unfolding stageNumber innerNumber stepStage stepBox lift
+stage-spells (stage.Opening brand s) = inside-spells (stepOpening brand) stepStage (stage.Opening brand) (λ q q' f g n b e. rw e) _ s (opening-spells brand s)
+stage-spells (stage.Gap top l end s) = inside-spells (stepGap end) stepStage (stage.Gap top l end) (λ q q' f g n b e. rw e) _ s (gap-spells end s)
+stage-spells (stage.Entry top ls) = absent-spells _ (stage.Entry top ls)
+stage-spells (stage.Leaf top ls slot s) = inside-spells (stepLeaf (top .id) slot) stepStage (stage.Leaf top ls slot) (λ q q' f g n b e. rw e) _ s (leaf-spells (top .id) slot s)
+stage-spells (stage.Inner top ls slot (inners.Head h)) =
+    inside-spells (stepHead left (slot .end)) stepStage (λ q. stage.Inner top ls slot (inners.Head q)) (λ q q' f g n b e. rw e) _ h (head-spells (slot .end) h)
+stage-spells (stage.Inner top ls slot (inners.Body span s)) =
+    let p = under top slot (depth ls) in
+    inside-spells (stepSidx p span) stepStage (λ q. stage.Inner top ls slot (inners.Body span q)) (λ q q' f g n b e. rw e) _ s (sidx-spells p span s)
 
 -- one byte of a reading
 number-step : (n m a : ℕ) (s : Stage) (f : Flow) (b : ℕ) → n < limit → 0 < stageNumber s .more →
     step (reading n (stageNumber s .again (suc m) a) f) b ≡ reading (suc n) (stageNumber s .again m (a * 256 + b)) (keepIn (stageNumber s .place) (suc m) f b)
 unfolding step settle unless
-number-step n m a s f b low going = rw (past-none n low, stage-spells f n b m a s going)
+number-step n m a s f b low going = rw (past-none n low, stage-spells s .on going f n b m a)
 
 -- all of its bytes that are at hand but for its last: `m` more follow them, and the last
 number-run : (xs bytes : List ℕ) (n m a : ℕ) (s : Stage) (f : Flow) → n + length xs ≤ limit → 0 < stageNumber s .more →
@@ -186,79 +183,6 @@ number-run (x ∷ xs) bytes n m a s f low going =
     (ap (λ (k : ℕ). keepAll (stageNumber s .place) k (keepIn (stageNumber s .place) (suc (m + length xs)) f x) xs) p
     ∙ ap (λ (k : ℕ). keepAll (stageNumber s .place) (m + length (x ∷ xs) - 1) (keepIn (stageNumber s .place) k f x) xs) (sym d))
 
--- the number at hand as it stands
-head-same : (h : Head) → headNumber h .again (headNumber h .more) (headNumber h .acc) ≡ h
-unfolding headNumber
-head-same at.First = refl
-head-same (at.Size pos more acc) = refl
-head-same (at.Kind pos size more acc) = refl
-head-same (at.Large pos kind more acc) = refl
-
-sidx-same : (p : Place) (s : Sidx) → sidxNumber p s .again (sidxNumber p s .more) (sidxNumber p s .acc) ≡ s
-unfolding sidxNumber
-sidx-same p (sidx.Field i d more acc) = refl
-sidx-same p (sidx.Entry e d s more acc) = refl
-
-traf-body-same : (s : TrafBody) → trafBodyNumber s .again (trafBodyNumber s .more) (trafBodyNumber s .acc) ≡ s
-unfolding trafBodyNumber
-traf-body-same (trafs.Skip stop) = refl
-traf-body-same (trafs.Rest stop r) = refl
-traf-body-same (trafs.Field p more acc) = refl
-
-traf-same : (s : TrafBoxes) → trafNumber s .again (trafNumber s .more) (trafNumber s .acc) ≡ s
-unfolding trafNumber
-traf-same (trafBox.Head so h) = ap (trafBox.Head so) (head-same h)
-traf-same (trafBox.Body so s) = ap (trafBox.Body so) (traf-body-same s)
-
-moof-body-same : (s : MoofBody) → moofBodyNumber s .again (moofBodyNumber s .more) (moofBodyNumber s .acc) ≡ s
-unfolding moofBodyNumber
-moof-body-same (moofs.Skip stop) = refl
-moof-body-same (moofs.Traf span s) = ap (moofs.Traf span) (traf-same s)
-
-moof-same : (s : MoofBoxes) → moofNumber s .again (moofNumber s .more) (moofNumber s .acc) ≡ s
-unfolding moofNumber
-moof-same (moofBox.Head seen h) = ap (moofBox.Head seen) (head-same h)
-moof-same (moofBox.Body seen s) = ap (moofBox.Body seen) (moof-body-same s)
-
-leaf-body-same : (s : LeafBody) → leafBodyNumber s .again (leafBodyNumber s .more) (leafBodyNumber s .acc) ≡ s
-unfolding leafBodyNumber
-leaf-body-same (leaves.Skip stop) = refl
-leaf-body-same (leaves.Moof end s) = ap (leaves.Moof end) (moof-same s)
-
-leaf-same : (s : LeafBoxes) → leafNumber s .again (leafNumber s .more) (leafNumber s .acc) ≡ s
-unfolding leafNumber
-leaf-same (leafBox.Head so h) = ap (leafBox.Head so) (head-same h)
-leaf-same (leafBox.Body so s) = ap (leafBox.Body so) (leaf-body-same s)
-
-opening-body-same : (s : OpeningBody) → openingBodyNumber s .again (openingBodyNumber s .more) (openingBodyNumber s .acc) ≡ s
-unfolding openingBodyNumber
-opening-body-same (openings.Skip stop) = refl
-opening-body-same (openings.Styp span p listed more acc) = refl
-opening-body-same (openings.Index span s) = ap (openings.Index span) (sidx-same topmost s)
-
-opening-same : (s : OpeningBoxes) → openingNumber s .again (openingNumber s .more) (openingNumber s .acc) ≡ s
-unfolding openingNumber
-opening-same (openingBox.Head branded h) = ap (openingBox.Head branded) (head-same h)
-opening-same (openingBox.Body branded s) = ap (openingBox.Body branded) (opening-body-same s)
-
-gap-same : (s : GapBoxes) → gapNumber s .again (gapNumber s .more) (gapNumber s .acc) ≡ s
-unfolding gapNumber
-gap-same (gaps.Head h) = ap gaps.Head (head-same h)
-gap-same (gaps.Body stop) = refl
-
-inner-same : (top : Top) (ls : Levels) (slot : Slot) (s : InnerBox) → innerNumber top ls slot s .again (innerNumber top ls slot s .more) (innerNumber top ls slot s .acc) ≡ s
-unfolding innerNumber
-inner-same top ls slot (inners.Head h) = ap inners.Head (head-same h)
-inner-same top ls slot (inners.Body span s) = ap (inners.Body span) (sidx-same (under top slot (depth ls)) s)
-
-stage-same : (s : Stage) → stageNumber s .again (stageNumber s .more) (stageNumber s .acc) ≡ s
-unfolding stageNumber
-stage-same (stage.Opening brand s) = ap (stage.Opening brand) (opening-same s)
-stage-same (stage.Gap top l end s) = ap (stage.Gap top l end) (gap-same s)
-stage-same (stage.Entry top ls) = refl
-stage-same (stage.Leaf top ls slot s) = ap (stage.Leaf top ls slot) (leaf-same s)
-stage-same (stage.Inner top ls slot s) = ap (stage.Inner top ls slot) (inner-same top ls slot s)
-
 -- what they leave is the work area with them at their places
 kept-put : (place : Option ℕ) (more : ℕ) (f : Flow) (bs : List ℕ) → length bs ≤ more → Short place more → keepAll place more f bs ≡ withWork f (putIn place more (f .work) bs)
 unfolding keepAll keepIn putIn Short putAll
@@ -280,7 +204,7 @@ pub none-on : (s : Stage) → stageOn s 0 [] ≡ s
 unfolding numberFrom
 none-on s =
     let e : stageNumber s .more - 0 ≡ stageNumber s .more = omega arith in
-    ap (λ (m : ℕ). stageNumber s .again m (stageNumber s .acc)) e ∙ stage-same s
+    ap (λ (m : ℕ). stageNumber s .again m (stageNumber s .acc)) e ∙ stage-spells s .same
 
 pub none-put : (s : Stage) (work : List ℕ) → workOn s work [] ≡ work
 none-put s work = put-none (stageNumber s .place) (stageNumber s .more) work
@@ -300,7 +224,7 @@ number-taken (suc j) bytes i n s f there low most short =
     let bs : List ℕ = take k (drop i bytes) in
     let e : length bs ≡ k = length-take-le k (drop i bytes) (simp length-drop (omega arith)) in
     let d : x .more ≡ (x .more - k) + length bs = rw e (omega arith) in
-    ap (λ (q : Stage). run (reading n q f) (drop i bytes)) (sym (stage-same s))
+    ap (λ (q : Stage). run (reading n q f) (drop i bytes)) (sym (stage-spells s .same))
     ∙ ap (λ (m : ℕ). run (reading n (x .again m (x .acc)) f) (drop i bytes)) d
     ∙ ap (λ (xs : List ℕ). run (reading n (x .again ((x .more - k) + length bs) (x .acc)) f) xs) (sym (take-append-drop k (drop i bytes)))
     ∙ number-run bs (drop k (drop i bytes)) n (x .more - k) (x .acc) s f (rw e low) (omega arith)
