@@ -12,9 +12,8 @@ use native.Mathlib.Omega.{arith}
 use Rattle.basics.proofs.Put.{put-length, put-before, put-past}
 use Rattle.table.specs.declared.Record.{Record}
 use Rattle.basics.specs.Choose.{pick}
-use Rattle.segment.specs.Constants.{limit, moof, traf, tfhd, tfdt, styp, sidx}
-use Rattle.table.specs.Table.{recordNumbers, putRecord, numbersOf}
-use Rattle.machine.specs.Faults.{refusal, shows, unless}
+use Rattle.segment.specs.Constants.{limit, workBytes, recordNumbers, moof, traf, tfhd, tfdt, styp, sidx}
+use Rattle.machine.specs.Faults.{refusal, shows, unless, lowest}
 use Rattle.machine.specs.Run.{Sub, go, done, bad, lift}
 use Rattle.machine.specs.Heads.{boxEnd}
 use Rattle.machine.specs.Lists.{inHead, inBody, stepBox}
@@ -290,40 +289,63 @@ record Framed (l : Left) (place : Option ℕ) (b : ℕ) (l' : Left) : Type 0 whe
 framed-storing : (f : Flow) (place : Option ℕ) (b : ℕ) (l : Left) → l ≡ storing f place b → Framed (left f) place b l
 framed-storing f place b l e = rw e (record { works = refl; one = omega arith; grown = grown-same (f .leaves) (f .table) })
 
-framed-none : (f : Flow) (b : ℕ) (l : Left) → l ≡ left f → Framed (left f) none b l
-unfolding storedAt
-framed-none f b l e = framed-storing f none b l e
-
-framed-listed : (f g : Flow) (b now first last : ℕ) (slot : Slot) → left g ≡ left f → Framed (left f) none b (left (listed g (leafRecord slot now first) (slot .until) last))
+framed-listed : (f g : Flow) (b now first last : ℕ) (slot : Slot) → left g ≡ left f → Framed (left f) none b (left (listed g (leafRow slot now first) (slot .until) last))
 unfolding storedAt listed
 framed-listed f g b now first last slot e =
     rw (← e) (record { works = refl; one = omega arith; grown = grown-one (g .leaves) (g .table) (leafRecord slot now first) })
 
+-- "No record is written" for a byte that is refused: a refusal leaves the list and the leaf table.
+abbrev Unlisted : Flow → Sub Stage Top Flow Left → Type 0
+Unlisted f (go s g) = Unit {0}
+Unlisted f (done top g) = Unit {0}
+Unlisted f (bad x kept) = (kept .leaves ≡ f .leaves) × (kept .table ≡ f .table)
+
+unlisted-storing : (f : Flow) (place : Option ℕ) (b : ℕ) (r : Sub Stage Top Flow Left) → leftIn left r ≡ storing f place b → Unlisted f r
+unfolding leftIn
+unlisted-storing f place b (go s g) e = tt
+unlisted-storing f place b (done top g) e = tt
+unlisted-storing f place b (bad x kept) e = (ap (λ (l : Left). l .leaves) e, ap (λ (l : Left). l .table) e)
+
+onward-unlisted : (f : Flow) (top : Top) (o : Option Levels) (g : Flow) → Unlisted f (onward top o g)
+unfolding onward
+onward-unlisted f top none g = tt
+onward-unlisted f top (some ls) g = tt
+
+-- What an answer to one byte leaves, and that a refusal lists nothing.
+abbrev Frames : Flow → Option ℕ → ℕ → Sub Stage Top Flow Left → Type 0
+Frames f place b r = Framed (left f) place b (leftIn left r) × Unlisted f r
+
+frames-storing : (f : Flow) (place : Option ℕ) (b : ℕ) (r : Sub Stage Top Flow Left) → leftIn left r ≡ storing f place b → Frames f place b r
+frames-storing f place b r e = (framed-storing f place b (leftIn left r) e, unlisted-storing f place b r e)
+
+frames-none : (f : Flow) (b : ℕ) (r : Sub Stage Top Flow Left) → leftIn left r ≡ left f → Frames f none b r
+unfolding storedAt
+frames-none f b r e = frames-storing f none b r e
+
 -- A byte of a leaf: its record is written at its last byte.
 
-listing-framed : (top : Top) (ls : Levels) (slot : Slot) (f : Flow) (b : ℕ) (r : Sub LeafBoxes Seen Flow Left) → leftIn left r ≡ left f →
-    Framed (left f) none b (leftIn left (liftLeaf top ls slot r))
+listing-frames : (top : Top) (ls : Levels) (slot : Slot) (f : Flow) (b : ℕ) (r : Sub LeafBoxes Seen Flow Left) → leftIn left r ≡ left f → Frames f none b (liftLeaf top ls slot r)
 unfolding lift leftIn
-listing-framed top ls slot f b (go s g) e = framed-none f b (left g) e
-listing-framed top ls slot f b (done seen g) e =
-    rw (onward-left top (stillOpen ls) (listed g (leafRecord slot (g .now) (seen .first)) (slot .until) (seen .last))) (framed-listed f g b (g .now) (seen .first) (seen .last) slot e)
-listing-framed top ls slot f b (bad x kept) e = framed-none f b kept e
+listing-frames top ls slot f b (go s g) e = frames-none f b (go (stage.Leaf top ls slot s) g) e
+listing-frames top ls slot f b (done seen g) e =
+    let g' = listed g (leafRow slot (g .now) (seen .first)) (slot .until) (seen .last) in
+    (rw (onward-left top (stillOpen ls) g') (framed-listed f g b (g .now) (seen .first) (seen .last) slot e), onward-unlisted f top (stillOpen ls) g')
+listing-frames top ls slot f b (bad x kept) e = frames-none f b (bad x kept) e
 
-leaf-framed : (top : Top) (ls : Levels) (slot : Slot) (s : LeafBoxes) (f : Flow) (n b : ℕ) → Framed (left f) none b (leftIn left (stepInLeaf top ls slot s f n b))
-leaf-framed top ls slot s f n b = listing-framed top ls slot f b (stepLeaf (top .id) slot s f n b) (leaf-left (top .id) slot s f n b)
+leaf-frames : (top : Top) (ls : Levels) (slot : Slot) (s : LeafBoxes) (f : Flow) (n b : ℕ) → Frames f none b (stepInLeaf top ls slot s f n b)
+leaf-frames top ls slot s f n b = listing-frames top ls slot f b (stepLeaf (top .id) slot s f n b) (leaf-left (top .id) slot s f n b)
 
 -- An entry at its first byte.
 
-slot-framed : (top : Top) (ls : Levels) (inner : Bool) (slot : Slot) (f : Flow) (n b : ℕ) → Framed (left f) none b (leftIn left (stepSlot top ls inner slot f n b))
+slot-frames : (top : Top) (ls : Levels) (inner : Bool) (slot : Slot) (f : Flow) (n b : ℕ) → Frames f none b (stepSlot top ls inner slot f n b)
 unfolding stepSlot
-slot-framed top ls true slot f n b = framed-none f b _ (inner-head-left top ls slot at.First f n b)
-slot-framed top ls false slot f n b = leaf-framed top ls slot (leafBoxed.Head (leafSo0 (f .last)) at.First) f n b
+slot-frames top ls true slot f n b = frames-none f b _ (inner-head-left top ls slot at.First f n b)
+slot-frames top ls false slot f n b = leaf-frames top ls slot (leafBoxed.Head (leafSo0 (f .last)) at.First) f n b
 
-framed-unless : (xs : List Refusal) (f : Flow) (b : ℕ) (r : Sub Stage Top Flow Left) → Framed (left f) none b (leftIn left r) →
-    Framed (left f) none b (leftIn left (unless xs (λ x. bad x (left f)) r))
+frames-unless : (xs : List Refusal) (f : Flow) (b : ℕ) (r : Sub Stage Top Flow Left) → Frames f none b r → Frames f none b (unless xs (λ x. bad x (left f)) r)
 unfolding unless leftIn
-framed-unless [] f b r h = h
-framed-unless (x ∷ xs) f b r h = framed-none f b (left f) refl
+frames-unless [] f b r h = h
+frames-unless (x ∷ xs) f b r h = frames-none f b (bad (lowest x xs) (left f)) refl
 
 index-ends-left : (x : Index) (f : Flow) (n : ℕ) → leftIn left (indexEnds x f n) ≡ left f
 unfolding indexEnds leftIn
@@ -341,19 +363,17 @@ gap-stage-left top l end s f n b =
     lift-left left (stage.Gap top l end) (λ u g. follow top (levels.One l) g) bad (λ u g. onward-left top (stillOpen (levels.One l)) g) (λ x k. refl) (stepGap end s f n b) ∙ gap-left end s f n b
 
 -- A byte of a stage.
-stage-framed : (s : Stage) (f : Flow) (n b : ℕ) → Framed (left f) (stageByte s) b (leftIn left (stepStage s f n b))
+stage-frames : (s : Stage) (f : Flow) (n b : ℕ) → Frames f (stageByte s) b (stepStage s f n b)
 unfolding stepStage stageByte stepEntry
-stage-framed (stage.Opening brand s) f n b =
-    framed-storing f (openingByte s) b _ (opening-stage-left brand s f n b)
-stage-framed (stage.Gap top l end s) f n b =
-    framed-none f b _ (gap-stage-left top l end s f n b)
-stage-framed (stage.Entry top ls) f n b =
-    let e : StoredEntry = entryAt (f .work) (entryPlace ls) in
-    framed-unless (entryFaults (inmost ls) e (f .now) n) f b _ (slot-framed top (tookEntry ls) (e .inner) (slotOf e (f .now) n) f n b)
-stage-framed (stage.Leaf top ls slot s) f n b = leaf-framed top ls slot s f n b
-stage-framed (stage.Inner top ls slot (inners.Head h)) f n b = framed-none f b _ (inner-head-left top ls slot h f n b)
-stage-framed (stage.Inner top ls slot (inners.Body span s)) f n b =
-    framed-storing f (sidxByte (under top slot (depth ls)) s) b _ (inner-body-left top ls slot (record { span = span; sidx = s }) f n b)
+stage-frames (stage.Opening brand s) f n b = frames-storing f (openingByte s) b _ (opening-stage-left brand s f n b)
+stage-frames (stage.Gap top l end s) f n b = frames-none f b _ (gap-stage-left top l end s f n b)
+stage-frames (stage.Entry top ls) f n b =
+    let e : Entry = entryAt (f .work) (entryPlace ls) in
+    frames-unless (entryFaults (inmost ls) e (f .now) n) f b _ (slot-frames top (tookEntry ls) (e .inner) (slotOf e (f .now) n) f n b)
+stage-frames (stage.Leaf top ls slot s) f n b = leaf-frames top ls slot s f n b
+stage-frames (stage.Inner top ls slot (inners.Head h)) f n b = frames-none f b _ (inner-head-left top ls slot h f n b)
+stage-frames (stage.Inner top ls slot (inners.Body span s)) f n b =
+    frames-storing f (sidxByte (under top slot (depth ls)) s) b _ (inner-body-left top ls slot (record { span = span; sidx = s }) f n b)
 
 -- A byte of a reading.
 
@@ -371,7 +391,7 @@ limit-framed : (t : Bool) (n : ℕ) (s : Stage) (f : Flow) (b : ℕ) →
     Framed (left f) (stageByte s) b (leftWorld (unless (shows t 3 limit) (λ x. refused (suc n) (overLimit s f n x) (leftOver s f b)) (settle (suc n) (stepStage s f n b))))
 unfolding shows unless leavesOf workOf tableOf
 limit-framed true n s f b = framed-storing f (stageByte s) b (leftOver s f b) refl
-limit-framed false n s f b = rw (settle-left (suc n) (stepStage s f n b)) (stage-framed s f n b)
+limit-framed false n s f b = rw (settle-left (suc n) (stepStage s f n b)) (stage-frames s f n b .0)
 
 step-framed : (w : World) (b : ℕ) → Framed (leftWorld w) (entryByte w) b (leftWorld (step w b))
 unfolding step entryByte leavesOf workOf tableOf storedAt
@@ -393,62 +413,6 @@ leaves-step w b = step-framed w b .one
 
 -- "No record is written" for a byte that is refused.
 
--- a refusal leaves the list and the leaf table
-abbrev Unlisted : Flow → Sub Stage Top Flow Left → Type 0
-Unlisted f (go s g) = Unit {0}
-Unlisted f (done top g) = Unit {0}
-Unlisted f (bad x kept) = (kept .leaves ≡ f .leaves) × (kept .table ≡ f .table)
-
-unlisted-storing : (f : Flow) (place : Option ℕ) (b : ℕ) (r : Sub Stage Top Flow Left) → leftIn left r ≡ storing f place b → Unlisted f r
-unfolding leftIn
-unlisted-storing f place b (go s g) e = tt
-unlisted-storing f place b (done top g) e = tt
-unlisted-storing f place b (bad x kept) e = (ap (λ (l : Left). l .leaves) e, ap (λ (l : Left). l .table) e)
-
-unlisted-none : (f : Flow) (r : Sub Stage Top Flow Left) → leftIn left r ≡ left f → Unlisted f r
-unfolding storedAt
-unlisted-none f r e = unlisted-storing f none 0 r e
-
-onward-unlisted : (f : Flow) (top : Top) (o : Option Levels) (g : Flow) → Unlisted f (onward top o g)
-unfolding onward
-onward-unlisted f top none g = tt
-onward-unlisted f top (some ls) g = tt
-
-listing-unlisted : (top : Top) (ls : Levels) (slot : Slot) (f : Flow) (r : Sub LeafBoxes Seen Flow Left) → leftIn left r ≡ left f → Unlisted f (liftLeaf top ls slot r)
-unfolding lift leftIn
-listing-unlisted top ls slot f (go s g) e = tt
-listing-unlisted top ls slot f (done seen g) e = onward-unlisted f top (stillOpen ls) (listed g (leafRecord slot (g .now) (seen .first)) (slot .until) (seen .last))
-listing-unlisted top ls slot f (bad x kept) e = (ap (λ (l : Left). l .leaves) e, ap (λ (l : Left). l .table) e)
-
-slot-unlisted : (top : Top) (ls : Levels) (inner : Bool) (slot : Slot) (f : Flow) (n b : ℕ) → Unlisted f (stepSlot top ls inner slot f n b)
-unfolding stepSlot
-slot-unlisted top ls true slot f n b = unlisted-none f (stepInner top ls slot (inHead at.First) f n b) (inner-head-left top ls slot at.First f n b)
-slot-unlisted top ls false slot f n b =
-    listing-unlisted top ls slot f (stepLeaf (top .id) slot (leafBoxed.Head (leafSo0 (f .last)) at.First) f n b) (leaf-left (top .id) slot (leafBoxed.Head (leafSo0 (f .last)) at.First) f n b)
-
-unless-unlisted : (xs : List Refusal) (f : Flow) (r : Sub Stage Top Flow Left) → Unlisted f r → Unlisted f (unless xs (λ x. bad x (left f)) r)
-unfolding unless
-unless-unlisted [] f r h = h
-unless-unlisted (x ∷ xs) f r h = (refl, refl)
-
-stage-unlisted : (s : Stage) (f : Flow) (n b : ℕ) → Unlisted f (stepStage s f n b)
-unfolding stepStage stepEntry
-stage-unlisted (stage.Opening brand s) f n b =
-    unlisted-storing f (openingByte s) b (stepStage (stage.Opening brand s) f n b)
-    (opening-stage-left brand s f n b)
-stage-unlisted (stage.Gap top l end s) f n b =
-    unlisted-none f (stepStage (stage.Gap top l end s) f n b)
-    (gap-stage-left top l end s f n b)
-stage-unlisted (stage.Entry top ls) f n b =
-    let e : StoredEntry = entryAt (f .work) (entryPlace ls) in
-    unless-unlisted (entryFaults (inmost ls) e (f .now) n) f (stepSlot top (tookEntry ls) (e .inner) (slotOf e (f .now) n) f n b)
-    (slot-unlisted top (tookEntry ls) (e .inner) (slotOf e (f .now) n) f n b)
-stage-unlisted (stage.Leaf top ls slot s) f n b = listing-unlisted top ls slot f (stepLeaf (top .id) slot s f n b) (leaf-left (top .id) slot s f n b)
-stage-unlisted (stage.Inner top ls slot (inners.Head h)) f n b = unlisted-none f (stepInner top ls slot (inHead h) f n b) (inner-head-left top ls slot h f n b)
-stage-unlisted (stage.Inner top ls slot (inners.Body span s)) f n b =
-    unlisted-storing f (sidxByte (under top slot (depth ls)) s) b (stepInner top ls slot (inBody (record { span = span; sidx = s })) f n b)
-    (inner-body-left top ls slot (record { span = span; sidx = s }) f n b)
-
 settle-unlisted : (f : Flow) (n : ℕ) (r : Sub Stage Top Flow Left) → Unlisted f r → (m : ℕ) (x : Refusal) (kept : Left) → settle n r ≡ refused m x kept →
     (kept .leaves ≡ f .leaves) × (kept .table ≡ f .table)
 unfolding settle
@@ -461,7 +425,7 @@ limit-unlisted : (t : Bool) (n : ℕ) (s : Stage) (f : Flow) (b m : ℕ) (x : Re
     (kept .leaves ≡ f .leaves) × (kept .table ≡ f .table)
 unfolding shows unless
 limit-unlisted true n s f b m x kept e = let same : leftOver s f b ≡ kept = cc in rw (← same) (refl, refl)
-limit-unlisted false n s f b m x kept e = settle-unlisted f (suc n) (stepStage s f n b) (stage-unlisted s f n b) m x kept e
+limit-unlisted false n s f b m x kept e = settle-unlisted f (suc n) (stepStage s f n b) (stage-frames s f n b .1) m x kept e
 
 -- a byte that is refused lists no leaf and changes nothing of the leaf table
 pub refused-step : (w : World) (b n : ℕ) (x : Refusal) (kept : Left) → step w b ≡ refused n x kept → (kept .leaves ≡ leavesOf w) × (kept .table ≡ tableOf w)

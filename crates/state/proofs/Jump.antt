@@ -13,22 +13,17 @@ use Rattle.segment.specs.Constants.{limit}
 use Rattle.machine.specs.Faults.{shows, unless}
 use Rattle.machine.specs.Run.{Sub, go, done, lift}
 use Rattle.machine.specs.Lists.{Box, inBody, stepBox, Boxes, stepBoxes}
-use Rattle.state.specs.declared.Track.{Track}
 use Rattle.state.specs.declared.Span.{Span}
 use Rattle.state.specs.declared.Slot.{Slot}
-use Rattle.state.specs.declared.TrafBody.{TrafBody}
 use Rattle.state.specs.declared.TrafBody.the-variants as trafs
 use Rattle.state.specs.declared.TrafBoxes.{TrafBoxes}
 use Rattle.state.specs.declared.TrafBoxes.the-variants as trafBox
-use Rattle.state.specs.declared.MoofBody.{MoofBody}
 use Rattle.state.specs.declared.MoofBody.the-variants as moofs
 use Rattle.state.specs.declared.MoofBoxes.{MoofBoxes}
 use Rattle.state.specs.declared.MoofBoxes.the-variants as moofBox
-use Rattle.state.specs.declared.LeafBody.{LeafBody}
 use Rattle.state.specs.declared.LeafBody.the-variants as leaves
 use Rattle.state.specs.declared.LeafBoxes.{LeafBoxes}
 use Rattle.state.specs.declared.LeafBoxes.the-variants as leafBox
-use Rattle.state.specs.declared.OpeningBody.{OpeningBody}
 use Rattle.state.specs.declared.OpeningBody.the-variants as openings
 use Rattle.state.specs.declared.OpeningBoxes.{OpeningBoxes}
 use Rattle.state.specs.declared.OpeningBoxes.the-variants as openingBox
@@ -55,47 +50,32 @@ module _ {A B R Q S : Type 0} (l : Boxes A B R Q Flow Left) (wrap : A → Box B 
   unfolding stepBox lift
   body-moves a s s' f g n b e = rw e
 
-traf-body-stays : (id : ℕ) (t : Track) (s : TrafBody) (f : Flow) (n b : ℕ) → suc n < trafBodySkips s → stepTrafBody id t s f n b ≡ go s f
-unfolding stepTrafBody trafBodySkips
-traf-body-stays id t (trafs.Skip stop) f n b h = skip-stays nothing (trafs.Skip stop) stop n f h
-traf-body-stays id t (trafs.Rest stop r) f n b h = skip-stays (headed r) (trafs.Rest stop r) stop n f h
-traf-body-stays id t (trafs.Field p more acc) f n b h = absurd (omega arith)
-
 traf-stays : (id : ℕ) (span : Span) (s : TrafBoxes) (f : Flow) (n b : ℕ) → suc n < trafSkips s → stepTraf id span s f n b ≡ go s f
-unfolding stepTraf trafSkips
+unfolding stepTraf stepTrafBody trafSkips trafBodySkips
 traf-stays id span (trafBox.Head so x) f n b h = absurd (omega arith)
-traf-stays id span (trafBox.Body so s) f n b h = body-moves (trafBoxes id span) wrapTraf so s s f f n b (traf-body-stays id (so .track) s f n b h)
-
-moof-body-stays : (id : ℕ) (s : MoofBody) (f : Flow) (n b : ℕ) → suc n < moofBodySkips s → stepMoofBody id s f n b ≡ go s f
-unfolding stepMoofBody moofBodySkips lift
-moof-body-stays id (moofs.Skip stop) f n b h = skip-stays skipped (moofs.Skip stop) stop n f h
-moof-body-stays id (moofs.Traf span s) f n b h = rw (traf-stays id span s f n b h)
+traf-stays id span (trafBox.Body so (trafs.Skip stop)) f n b h = body-moves (trafBoxes id span) wrapTraf so _ _ f f n b (skip-stays nothing (trafs.Skip stop) stop n f h)
+traf-stays id span (trafBox.Body so (trafs.Rest stop r)) f n b h = body-moves (trafBoxes id span) wrapTraf so _ _ f f n b (skip-stays (headed r) (trafs.Rest stop r) stop n f h)
+traf-stays id span (trafBox.Body so (trafs.Field p more acc)) f n b h = absurd (omega arith)
 
 moof-stays : (id end : ℕ) (s : MoofBoxes) (f : Flow) (n b : ℕ) → suc n < moofSkips s → stepMoof id end s f n b ≡ go s f
-unfolding stepMoof moofSkips
+unfolding stepMoof stepMoofBody moofSkips moofBodySkips lift
 moof-stays id end (moofBox.Head seen x) f n b h = absurd (omega arith)
-moof-stays id end (moofBox.Body seen s) f n b h = body-moves (moofBoxes id end) wrapMoof seen s s f f n b (moof-body-stays id s f n b h)
-
-leaf-body-stays : (id : ℕ) (s : LeafBody) (f : Flow) (n b : ℕ) → suc n < leafBodySkips s → stepLeafBody id s f n b ≡ go s f
-unfolding stepLeafBody leafBodySkips lift
-leaf-body-stays id (leaves.Skip stop) f n b h = skip-stays skipped (leaves.Skip stop) stop n f h
-leaf-body-stays id (leaves.Moof end s) f n b h = rw (moof-stays id end s f n b h)
+moof-stays id end (moofBox.Body seen (moofs.Skip stop)) f n b h = body-moves (moofBoxes id end) wrapMoof seen _ _ f f n b (skip-stays skipped (moofs.Skip stop) stop n f h)
+moof-stays id end (moofBox.Body seen (moofs.Traf span s)) f n b h = body-moves (moofBoxes id end) wrapMoof seen _ (moofs.Traf span s) f f n b (rw (traf-stays id span s f n b h))
 
 leaf-stays : (id : ℕ) (slot : Slot) (s : LeafBoxes) (f : Flow) (n b : ℕ) → suc n < leafSkips s → stepLeaf id slot s f n b ≡ go s f
-unfolding stepLeaf leafSkips
+unfolding stepLeaf stepLeafBody leafSkips leafBodySkips lift
 leaf-stays id slot (leafBox.Head so x) f n b h = absurd (omega arith)
-leaf-stays id slot (leafBox.Body so s) f n b h = body-moves (leafBoxes id slot) wrapLeaf so s s f f n b (leaf-body-stays id s f n b h)
-
-opening-body-stays : (brand : ℕ) (s : OpeningBody) (f : Flow) (n b : ℕ) → suc n < openingBodySkips s → stepOpeningBody brand s f n b ≡ go s f
-unfolding stepOpeningBody openingBodySkips
-opening-body-stays brand (openings.Skip stop) f n b h = skip-stays passed (openings.Skip stop) stop n f h
-opening-body-stays brand (openings.Styp span p found more acc) f n b h = absurd (omega arith)
-opening-body-stays brand (openings.Index span s) f n b h = absurd (omega arith)
+leaf-stays id slot (leafBox.Body so (leaves.Skip stop)) f n b h = body-moves (leafBoxes id slot) wrapLeaf so _ _ f f n b (skip-stays skipped (leaves.Skip stop) stop n f h)
+leaf-stays id slot (leafBox.Body so (leaves.Moof end s)) f n b h = body-moves (leafBoxes id slot) wrapLeaf so _ (leaves.Moof end s) f f n b (rw (moof-stays id end s f n b h))
 
 opening-stays : (brand : ℕ) (s : OpeningBoxes) (f : Flow) (n b : ℕ) → suc n < openingSkips s → stepOpening brand s f n b ≡ go s f
-unfolding stepOpening openingSkips
+unfolding stepOpening stepOpeningBody openingSkips openingBodySkips
 opening-stays brand (openingBox.Head branded x) f n b h = absurd (omega arith)
-opening-stays brand (openingBox.Body branded s) f n b h = body-moves (opening brand) wrapOpening branded s s f f n b (opening-body-stays brand s f n b h)
+opening-stays brand (openingBox.Body branded (openings.Skip stop)) f n b h =
+    body-moves (opening brand) wrapOpening branded _ _ f f n b (skip-stays passed (openings.Skip stop) stop n f h)
+opening-stays brand (openingBox.Body branded (openings.Styp span p found more acc)) f n b h = absurd (omega arith)
+opening-stays brand (openingBox.Body branded (openings.Index span s)) f n b h = absurd (omega arith)
 
 gap-stays : (end : ℕ) (s : GapBoxes) (f : Flow) (n b : ℕ) → suc n < gapSkips s → stepGap end s f n b ≡ go s f
 unfolding stepGap gapSkips

@@ -20,7 +20,7 @@ use Rattle.machine.specs.declared.Head.{Head}
 use Rattle.machine.specs.declared.Head.the-variants as at
 use Rattle.machine.proofs.Kept.{Kept, lift-kept, Each, each-shows, each-append, each-lowest, unless-holds}
 use Rattle.machine.proofs.Faults.{none-second}
-use Rattle.state.specs.Flow.{Flow, Left, left}
+use Rattle.state.specs.Flow.{Flow, Left}
 use Rattle.state.specs.Ranges.{Bound, Within, headBounds}
 use Rattle.state.proofs.RangeTests.{spelled-first, spelled-next}
 

@@ -14,7 +14,6 @@ use Rattle.machine.specs.Heads.{boxEnd}
 use Rattle.machine.specs.Lists.{Box, inHead, inBody, stepBoxes}
 use Rattle.machine.specs.declared.Refusal.{Refusal}
 use Rattle.machine.specs.declared.Header.{Header}
-use Rattle.machine.specs.declared.Head.the-variants as at
 use Rattle.machine.proofs.Kept.{lift-kept, Each, each-none}
 use Rattle.machine.proofs.Faults.{shows-none, none-first}
 use Rattle.state.specs.declared.Span.{Span}

@@ -16,19 +16,15 @@ use Rattle.state.specs.declared.TrafPart.{TrafPart}
 use Rattle.state.specs.declared.TrafPart.the-variants as trafPart
 use Rattle.state.specs.declared.Sidx.{Sidx}
 use Rattle.state.specs.declared.Sidx.the-variants as sidx
-use Rattle.state.specs.declared.TrafBody.{TrafBody}
 use Rattle.state.specs.declared.TrafBody.the-variants as trafs
 use Rattle.state.specs.declared.TrafBoxes.{TrafBoxes}
 use Rattle.state.specs.declared.TrafBoxes.the-variants as trafBox
-use Rattle.state.specs.declared.MoofBody.{MoofBody}
 use Rattle.state.specs.declared.MoofBody.the-variants as moofs
 use Rattle.state.specs.declared.MoofBoxes.{MoofBoxes}
 use Rattle.state.specs.declared.MoofBoxes.the-variants as moofBox
-use Rattle.state.specs.declared.LeafBody.{LeafBody}
 use Rattle.state.specs.declared.LeafBody.the-variants as leaves
 use Rattle.state.specs.declared.LeafBoxes.{LeafBoxes}
 use Rattle.state.specs.declared.LeafBoxes.the-variants as leafBox
-use Rattle.state.specs.declared.OpeningBody.{OpeningBody}
 use Rattle.state.specs.declared.OpeningBody.the-variants as openings
 use Rattle.state.specs.declared.OpeningBoxes.{OpeningBoxes}
 use Rattle.state.specs.declared.OpeningBoxes.the-variants as openingBox
@@ -95,47 +91,31 @@ sidx-fits p (sidx.Field i d more acc) h w = (widen (indexMost i (d .wide)) more 
 sidx-fits p (sidx.Entry e d s more acc) h w =
     (widen 3 more acc (omega arith) (w .1 .1 .1 .1 .1 .1 .1), (w .1 .1 .1 .1 .1 .1 .1 .0, omega (arith, h, word-most e, w .1 .1 .1 .0, w .1 .1 .1 .1 .0)))
 
-traf-body-fits : (s : TrafBody) → Within (trafBodyBounds s) → Fits (trafBodyNumber s)
-unfolding trafBodyBounds trafBodyNumber Short
-traf-body-fits (trafs.Skip stop) w = (absent-fits, tt)
-traf-body-fits (trafs.Rest stop r) w = (absent-fits, tt)
-traf-body-fits (trafs.Field p more acc) w = (widen (trafMost p) more acc (traf-most p) w, tt)
-
 traf-fits : (s : TrafBoxes) → Within (trafBounds s) → Fits (trafNumber s)
-unfolding trafBounds trafNumber
+unfolding trafBounds trafNumber trafBodyBounds trafBodyNumber Short
 traf-fits (trafBox.Head so h) w = head-fits h w
-traf-fits (trafBox.Body so s) w = traf-body-fits s w
-
-moof-body-fits : (s : MoofBody) → Within (moofBodyBounds s) → Fits (moofBodyNumber s)
-unfolding moofBodyBounds moofBodyNumber Short
-moof-body-fits (moofs.Skip stop) w = (absent-fits, tt)
-moof-body-fits (moofs.Traf span s) w = traf-fits s w
+traf-fits (trafBox.Body so (trafs.Skip stop)) w = (absent-fits, tt)
+traf-fits (trafBox.Body so (trafs.Rest stop r)) w = (absent-fits, tt)
+traf-fits (trafBox.Body so (trafs.Field p more acc)) w = (widen (trafMost p) more acc (traf-most p) w, tt)
 
 moof-fits : (s : MoofBoxes) → Within (moofBounds s) → Fits (moofNumber s)
-unfolding moofBounds moofNumber
+unfolding moofBounds moofNumber moofBodyBounds moofBodyNumber Short
 moof-fits (moofBox.Head seen h) w = head-fits h w
-moof-fits (moofBox.Body seen s) w = moof-body-fits s w
-
-leaf-body-fits : (s : LeafBody) → Within (leafBodyBounds s) → Fits (leafBodyNumber s)
-unfolding leafBodyBounds leafBodyNumber Short
-leaf-body-fits (leaves.Skip stop) w = (absent-fits, tt)
-leaf-body-fits (leaves.Moof end s) w = moof-fits s w
+moof-fits (moofBox.Body seen (moofs.Skip stop)) w = (absent-fits, tt)
+moof-fits (moofBox.Body seen (moofs.Traf span s)) w = traf-fits s w
 
 leaf-fits : (s : LeafBoxes) → Within (leafBounds s) → Fits (leafNumber s)
-unfolding leafBounds leafNumber
+unfolding leafBounds leafNumber leafBodyBounds leafBodyNumber Short
 leaf-fits (leafBox.Head so h) w = head-fits h w
-leaf-fits (leafBox.Body so s) w = leaf-body-fits s w
-
-opening-body-fits : (s : OpeningBody) → Within (openingBodyBounds s) → Fits (openingBodyNumber s)
-unfolding openingBodyBounds openingBodyNumber Short partOf
-opening-body-fits (openings.Skip stop) w = (absent-fits, tt)
-opening-body-fits (openings.Styp span p listed more acc) w = (widen 3 more acc (omega arith) w, tt)
-opening-body-fits (openings.Index span s) w = sidx-fits topmost s (omega arith) w
+leaf-fits (leafBox.Body so (leaves.Skip stop)) w = (absent-fits, tt)
+leaf-fits (leafBox.Body so (leaves.Moof end s)) w = moof-fits s w
 
 opening-fits : (s : OpeningBoxes) → Within (openingBounds s) → Fits (openingNumber s)
-unfolding openingBounds openingNumber
+unfolding openingBounds openingNumber openingBodyBounds openingBodyNumber Short partOf
 opening-fits (openingBox.Head branded h) w = head-fits h w
-opening-fits (openingBox.Body branded s) w = opening-body-fits s w
+opening-fits (openingBox.Body branded (openings.Skip stop)) w = (absent-fits, tt)
+opening-fits (openingBox.Body branded (openings.Styp span p listed more acc)) w = (widen 3 more acc (omega arith) w, tt)
+opening-fits (openingBox.Body branded (openings.Index span s)) w = sidx-fits topmost s (omega arith) w
 
 gap-fits : (s : GapBoxes) → Within (gapBounds s) → Fits (gapNumber s)
 unfolding gapBounds gapNumber Short

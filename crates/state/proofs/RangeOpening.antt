@@ -12,7 +12,6 @@ use Rattle.machine.specs.Lists.{Box, inHead, inBody, stepBoxes}
 use Rattle.machine.specs.declared.Header.{Header}
 use Rattle.machine.proofs.Kept.{lift-kept, Each, each-none}
 use Rattle.state.specs.declared.Span.{Span}
-use Rattle.state.specs.declared.Index.{Index}
 use Rattle.state.specs.declared.StypPart.{StypPart}
 use Rattle.state.specs.declared.StypPart.the-variants as styps
 use Rattle.state.specs.declared.OpeningBody.{OpeningBody}
