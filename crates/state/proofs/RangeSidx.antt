@@ -32,9 +32,9 @@ use Rattle.state.proofs.RangeKept.{Numbered, Flows, KeptIn, shown, both
 abbrev pub indexBounds : Index → List Bound
 indexBounds x = below (x .id) wordLimit ∷ atMost 1 (x .scale) ∷ below (x .scale) wordLimit ∷ below 0 (x .count) ∷ atMost (x .count) mostEntries ∷ []
 
--- on top: start plus durations is a time too
+-- on top: first offset and material are within the limit, and start plus durations is a time
 unfoldable pub Ends : Place → Index → Type 0
-Ends topmost x = x .time + x .durations < timeLimit
+Ends topmost x = (x .offset + x .sizes ≤ limit) × (x .time + x .durations < timeLimit)
 Ends (under top slot depth) x = Unit {0}
 
 pub sidx-starts : Within (sidxBounds sidxStart)
@@ -90,7 +90,9 @@ count-some span v n e =
 
 sums-end : (p : Place) (span : Span) (x : Index) (now n : ℕ) → sumFaults p span x now n ≡ [] → Ends p x
 unfolding sumFaults Ends
-sums-end topmost span x now n e = leb-false _ _ (or-neither (ltb limit (n + x .offset + x .sizes)) (leb timeLimit (x .time + x .durations)) (shows-none _ _ _ e) .1)
+sums-end topmost span x now n e =
+    let h = or-neither (ltb limit (n + x .offset + x .sizes)) (leb timeLimit (x .time + x .durations)) (shows-none _ _ _ e) in
+    (omega (arith, ltb-false limit (n + x .offset + x .sizes) (h .0)), leb-false _ _ (h .1))
 sums-end (under top slot depth) span x now n e = tt
 
 module _ (t : ℕ) (p : Place) where

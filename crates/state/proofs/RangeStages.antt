@@ -75,8 +75,8 @@ index-ends : (t : ℕ) (x : Index) (f : Flow) (n : ℕ) → Read t topmost x f �
 unfolding indexEnds stageBounds levelsBounds inmost gapBounds headBounds Ends
 index-ends t x f n r =
     pick-holds StageKept (eqb (x .offset) 0) _ _
-    (λ e. follow-kept (topOf x) (levels.One (topLevel x n)) (withNow f (x .time)) (let w = r .0 in let k : x .time + x .durations < _ = r .1 in omega arith) (let w = r .0 in omega arith) (omega arith) (r .2 .0))
-    (λ e. (let w = r .0 in let k : x .time + x .durations < _ = r .1 in omega arith, r .2 .0))
+    (λ e. follow-kept (topOf x) (levels.One (topLevel x n)) (withNow f (x .time)) (let w = r .0 in let k : x .time + x .durations < _ = r .1 .1 in omega arith) (let w = r .0 in omega arith) (omega arith) (r .2 .0))
+    (λ e. (let w = r .0 in let k : x .time + x .durations < _ = r .1 .1 in omega arith, r .2 .0))
 
 -- an entry that is being read: what is known around it, when it starts at the time `t`
 abbrev Around : Top → Levels → Slot → ℕ → Type 0

@@ -21,7 +21,7 @@ returns c =
     λ id f e. rw (
       c .worse-in-leaf .ensures f e,
       headed-bad (leafBoxes id (a .slot) .box (a .so)) (a .h) f (a .n) _
-      (leaf-placed (a .slot .end) (a .slot .pos) (a .so .moof) (a .full) (a .h) f e) (flawed .leaf-flaw .ensures f e) (test .if1 .taken),
+          (leaf-placed (a .slot .end) (a .slot .pos) (a .so .moof) (a .full) (a .h) f e) (flawed .leaf-flaw .ensures f e) (test .if1 .taken),
     )
 
 begin-leaf-requires : tie.Need-begin-leaf-requires
@@ -33,7 +33,7 @@ begin-leaf-requires c κs =
     omega (
       arith,
       flawless (a .slot .end) (a .h) _ (leaf-placed (a .slot .end) (a .slot .pos) (a .so .moof) (a .full) (a .h) f e)
-      (sym (flawed .leaf-flaw .ensures f e) ∙ c .before .if1 .left) .1,
+          (sym (flawed .leaf-flaw .ensures f e) ∙ c .before .if1 .left) .1,
     )
 
 returns-2 : tie.Need-returns-2
@@ -43,7 +43,7 @@ returns-2 c =
     let a = flawed .before .args in
     λ id f e. rw (
       headed-good (leafBoxes id (a .slot) .box (a .so)) (a .h) f (a .n) _
-      (leaf-placed (a .slot .end) (a .slot .pos) (a .so .moof) (a .full) (a .h) f e) (flawed .leaf-flaw .ensures f e) (test .if1 .left),
+          (leaf-placed (a .slot .end) (a .slot .pos) (a .so .moof) (a .full) (a .h) f e) (flawed .leaf-flaw .ensures f e) (test .if1 .left),
       ← c .before .begin-leaf .ensures id f,
     )
     (c .after-leaf-body .ensures id f e)

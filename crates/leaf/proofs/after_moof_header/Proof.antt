@@ -30,7 +30,7 @@ returns-2 c =
     let a = test .before .before .args in
     λ id f. rw (
       headed-good (moofBoxes id (a .end) .box (a .seen)) (a .h) f (a .n) _
-      (rw append-nil (size-placed (a .end) (a .h))) (rw append-nil (test .before .size-flaw .ensures)) (test .if1 .left),
+          (rw append-nil (size-placed (a .end) (a .h))) (rw append-nil (test .before .size-flaw .ensures)) (test .if1 .left),
       ← c .before .begin-moof .ensures id f,
     )
     (c .after-moof-body .ensures id f)
