@@ -54,7 +54,8 @@ module _ (slot : Slot) (so : LeafSo) (f : Flow) (full : Bool) (room : RoomIs ful
       ∙ lowest-lacks full (so .seen .any) x (slot .pos)
 
   -- at the end of the list
-  pub lacks-over : (id : ℕ) → goOn (leafBoxes id slot) wrapLeaf (leafNext slot so f n) f ≡ pick (eqb (lackOf full (so .seen .any)) 0) (done (so .seen) f) (bad (refusal (lackOf full (so .seen .any)) (slot .pos)) (left f))
+  pub lacks-over : (id : ℕ) → goOn (leafBoxes id slot) wrapLeaf (leafNext slot so f n) f
+      ≡ pick (eqb (lackOf full (so .seen .any)) 0) (done (so .seen) f) (bad (refusal (lackOf full (so .seen .any)) (slot .pos)) (left f))
   unfolding goOn leafNext leafLacks
   lacks-over id =
       ap (λ q. goOn (leafBoxes id slot) wrapLeaf q f) (pick-yes _ _ _ (eq-eqb n (slot .end) e))

@@ -38,7 +38,8 @@ ghost use Rattle.header.specs.Views.{viewHead, afterBody, afterHeader, afterHea
 ghost use Rattle.header.specs.Flaws.{flawOf};
 ghost use Rattle.state.specs.Flow.{Flow, left};
 ghost use Rattle.state.specs.Rows.{noRoom, leafFaults};
-ghost use Rattle.state.specs.Leaf.{seenNow, skipMoof, liftTraf, beginMoof, stepMoofBody, moofNext, moofBoxes, wrapMoof, stepMoof, skipLeaf, liftMoof, beginLeaf, stepLeafBody, leafNow, leafLacks, leafNext, leafBoxes, wrapLeaf, stepLeaf};
+ghost use Rattle.state.specs.Leaf.{seenNow, skipMoof, liftTraf, beginMoof, stepMoofBody, moofNext, moofBoxes, wrapMoof, stepMoof, skipLeaf, liftMoof, beginLeaf, stepLeafBody, leafNow, leafLacks};
+ghost use Rattle.state.specs.Leaf.{leafNext, leafBoxes, wrapLeaf, stepLeaf};
 ghost use Rattle.state.specs.Ranges.{Within, moofBodyBounds, moofBounds, leafBodyBounds, leafBounds};
 ghost use Rattle.traf.specs.Views.{viewTraf};
 ghost use Rattle.leaf.specs.Leaf.{passedOf, viewMoofBody, viewMoof, viewLeafBody, viewLeaf, RoomIs, lackOf};

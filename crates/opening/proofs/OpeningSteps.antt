@@ -23,7 +23,8 @@ use Rattle.state.specs.declared.EntryPart.{EntryPart}
 use Rattle.state.specs.declared.EntryPart.the-variants as entry
 use Rattle.state.specs.declared.OpeningBody.the-variants as body
 use Rattle.state.specs.Flow.{Flow, Left, withNow}
-use Rattle.state.specs.Sidx.{topmost, sidxVersionFaults, idFaults, scaleFaults, timeFaults, offsetFaults, countFaults, sumFaults, entrySizeFaults, indexOf, closeSidx, fieldEnds, entryEnds, keepByte, stepSidx}
+use Rattle.state.specs.Sidx.{topmost, sidxVersionFaults, idFaults, scaleFaults, timeFaults, offsetFaults, countFaults, sumFaults, entrySizeFaults, indexOf, closeSidx, fieldEnds, entryEnds, keepByte}
+use Rattle.state.specs.Sidx.{stepSidx}
 use Rattle.state.specs.Calls.{flowOf}
 use Rattle.state.specs.Opening.{indexed, beginOpening, skipOpening, stepOpeningBody}
 use Rattle.index.specs.Views.{viewIndex}

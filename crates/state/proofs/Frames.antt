@@ -75,11 +75,12 @@ use Rattle.state.specs.Sidx as indexes
 use Rattle.state.specs.Sidx.{Place, topmost, under, sumFaults, indexOf, closeSidx, fieldEnds, entryEnds, keepByte, stepSidx}
 use Rattle.state.specs.Traf as traffic
 use Rattle.state.specs.Traf.{nothing, trafEnds, beginTraf, stepTrafBody, trafBox, trafBoxes, wrapTraf, trafNext, trafSo0, stepTraf, beginTrafBoxes}
-use Rattle.state.specs.Leaf.{skipped, seeing, beginMoof, stepMoofBody, moofKind, moofNext, moofBoxes, wrapMoof, stepMoof, beginMoofBoxes, beginLeaf, stepLeafBody, leafKind, leafBoxes, wrapLeaf, stepLeaf, leafSo0}
+use Rattle.state.specs.Leaf.{skipped, seeing, beginMoof, stepMoofBody, moofKind, moofNext, moofBoxes, wrapMoof, stepMoof, beginMoofBoxes, beginLeaf, stepLeafBody, leafKind, leafBoxes, wrapLeaf}
+use Rattle.state.specs.Leaf.{stepLeaf, leafSo0}
 use Rattle.state.specs.Opening.{passed, indexed, spanOf, unlisted, brandsFrom, stypEnds, beginOpening, stepOpeningBody, openingBox, opening, wrapOpening, stepOpening}
-use Rattle.state.specs.Levels.{entryAt, entryPlace, inmost, depth, tookEntry, push, stillOpen, entryFaults, slotOf}
-use Rattle.state.specs.declared.StoredEntry.{StoredEntry}
-use Rattle.state.specs.Stages.{gapKind, gapBoxes, wrapGap, stepGap, onward, follow, topOf, topLevel, indexEnds, InnerBody, innerKind, innerLevel, stepInner, leafRecord, liftLeaf, stepInLeaf, stepSlot, stepEntry, stepStage}
+use Rattle.state.specs.Levels.{Entry, entryAt, entryPlace, inmost, depth, tookEntry, push, stillOpen, entryFaults, slotOf}
+use Rattle.state.specs.Stages.{gapKind, gapBoxes, wrapGap, stepGap, onward, follow, topOf, topLevel, indexEnds, InnerBody, innerKind, innerLevel, stepInner, leafRow, liftLeaf, stepInLeaf}
+use Rattle.state.specs.Stages.{stepSlot, stepEntry, stepStage}
 use Rattle.state.specs.Places.{sidxByte, openingBodyByte, openingByte, stageByte, storedAt}
 use Rattle.state.specs.Step.{World, reading, ended, refused, settle, overLimit, leftOver, step, run}
 use Rattle.state.specs.Calls.{Out, out, flowOf, leftOf, fed, stateOf, workOf, tableOf, feedState, feedOf}

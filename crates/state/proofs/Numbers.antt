@@ -49,7 +49,8 @@ use Rattle.state.specs.Leaf.{stepMoofBody, moofBoxes, wrapMoof, stepMoof
 use Rattle.state.specs.Opening.{stepOpeningBody, opening, wrapOpening, stepOpening}
 use Rattle.state.specs.Stages.{gapBoxes, wrapGap, stepGap, stepStage}
 use Rattle.state.specs.Step.{World, reading, settle, step, run}
-use Rattle.state.specs.Numbers.{Number, absent, inside, headNumber, sidxNumber, trafBodyNumber, trafNumber, moofBodyNumber, moofNumber, leafBodyNumber, leafNumber, openingBodyNumber, openingNumber, gapNumber, innerNumber, stageNumber, stageOn, workOn, putIn, Short}
+use Rattle.state.specs.Numbers.{Number, absent, inside, headNumber, sidxNumber, trafBodyNumber, trafNumber, moofBodyNumber, moofNumber, leafBodyNumber, leafNumber, openingBodyNumber}
+use Rattle.state.specs.Numbers.{openingNumber, gapNumber, innerNumber, stageNumber, stageOn, workOn, putIn, Short}
 use Rattle.state.proofs.Jump.{body-moves, past-none}
 
 -- what a byte leaves in what flows, told how many follow it; and what some bytes leave, told how many follow the first of them
@@ -178,7 +179,8 @@ number-run (x ∷ xs) bytes n m a s f low going =
     ap (λ (k : ℕ). run (step (reading n (stageNumber s .again k a) f) x) (xs ++ bytes)) d
     ∙ ap (λ (w : World). run w (xs ++ bytes)) (number-step n (m + length xs) a s f x (omega arith) going)
     ∙ number-run xs bytes (suc n) m (a * 256 + x) s (keepIn (stageNumber s .place) (suc (m + length xs)) f x) (omega arith) going
-    ∙ ap (λ (k : ℕ). run (reading k (stageNumber s .again m (numberFrom (a * 256 + x) xs)) (keepAll (stageNumber s .place) (m + length xs) (keepIn (stageNumber s .place) (suc (m + length xs)) f x) xs)) bytes) e
+    ∙ ap (λ (k : ℕ).
+    run (reading k (stageNumber s .again m (numberFrom (a * 256 + x) xs)) (keepAll (stageNumber s .place) (m + length xs) (keepIn (stageNumber s .place) (suc (m + length xs)) f x) xs)) bytes) e
     ∙ ap (λ (g : Flow). run (reading (n + length (x ∷ xs)) (stageNumber s .again m (numberFrom (a * 256 + x) xs)) g) bytes)
     (ap (λ (k : ℕ). keepAll (stageNumber s .place) k (keepIn (stageNumber s .place) (suc (m + length xs)) f x) xs) p
     ∙ ap (λ (k : ℕ). keepAll (stageNumber s .place) (m + length (x ∷ xs) - 1) (keepIn (stageNumber s .place) k f x) xs) (sym d))

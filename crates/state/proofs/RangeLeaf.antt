@@ -41,8 +41,10 @@ use Rattle.state.specs.Flow.{Flow, Left, left}
 use Rattle.table.specs.Table.{room, mostRecords, recordNumbers}
 use Rattle.state.specs.Rows.{is, topLengths, trafFaults, leafFaults, noRoom}
 use Rattle.state.specs.Opening.{spanOf}
-use Rattle.state.specs.Traf.{Gave, nothing, headed, timed, tfdtVersionFaults, fallFaults, skipTraf, restFrom, trafEnds, beginTraf, stepTrafBody, trafNow, lacking, trafNext, trafBoxes, trafBox as trafKind, wrapTraf, stepTraf, trafSo0, beginTrafBoxes}
-use Rattle.state.specs.Leaf.{seeing, seenNow, skipMoof, liftTraf, beginMoof, stepMoofBody, moofKind, moofNext, moofBoxes, wrapMoof, stepMoof, beginMoofBoxes, skipLeaf, liftMoof, beginLeaf, stepLeafBody, leafKind, leafNow, leafLacks, leafNext, leafBoxes, wrapLeaf, stepLeaf}
+use Rattle.state.specs.Traf.{Gave, nothing, headed, timed, tfdtVersionFaults, fallFaults, skipTraf, restFrom, trafEnds, beginTraf, stepTrafBody, trafNow, lacking, trafNext, trafBoxes}
+use Rattle.state.specs.Traf.{trafBox as trafKind, wrapTraf, stepTraf, trafSo0, beginTrafBoxes}
+use Rattle.state.specs.Leaf.{seeing, seenNow, skipMoof, liftTraf, beginMoof, stepMoofBody, moofKind, moofNext, moofBoxes, wrapMoof, stepMoof, beginMoofBoxes, skipLeaf, liftMoof, beginLeaf}
+use Rattle.state.specs.Leaf.{stepLeafBody, leafKind, leafNow, leafLacks, leafNext, leafBoxes, wrapLeaf, stepLeaf}
 use Rattle.state.specs.Ranges.{Within, trafMost, trafBodyBounds, trafBounds, moofBodyBounds, moofBounds, leafBodyBounds, leafBounds}
 use Rattle.state.proofs.RangeTests.{spelled-first, spelled-next}
 use Rattle.state.proofs.RangeKept.{Numbered, Flows, Refuses, Goes, KeptIn, shown, both, unless-kept, pick-kept, boxBounds, box-kept, Closes, goOn-kept, boxes-kept}
@@ -132,7 +134,8 @@ module _ (t : ℕ) where
       KeptIn t trafBounds Fine (stepBoxes (trafBoxes id span) wrapTraf so s f n b)
   unfolding trafBounds
   traf-box id span so s f n b hn hb w k =
-      boxes-kept t (trafBoxes id span) wrapTraf trafBounds Fine (λ g h. h) (λ a h y. y) trafBodyBounds Fine (λ a x y. y) (λ a r g m h. traf-next span (trafNow a r) (fallFaults (a .seen .last) r) g m (falls (a .seen .last) r) h)
+      boxes-kept t (trafBoxes id span) wrapTraf trafBounds Fine (λ g h. h) (λ a h y. y) trafBodyBounds Fine (λ a x y. y)
+      (λ a r g m h. traf-next span (trafNow a r) (fallFaults (a .seen .last) r) g m (falls (a .seen .last) r) h)
       (λ a kept m. pick-holds (Each Numbered) (eqb m (span .end)) _ _ (λ e. lackings (span .pos) (a .track)) (λ e. each-none Numbered))
       so s f n b
       (box-kept t (trafKind id (span .end) so) trafBodyBounds Fine (λ g h. h) (λ h g. traf-faults (so .track) h) (λ h g m e z. begin-traf h g m z) (step-traf-body id (so .track)) s f n b hn hb w k)
@@ -218,7 +221,12 @@ module _ (t : ℕ) where
   unfolding leafNext leafLacks
   leaf-next slot so f n k =
       pick-holds (Closes t Roomy f) (eqb n (slot .end)) _ _
-      (λ e. (leaf-lacks slot so (left f), k .0, λ e'. (let r = leb-false (room (f .table)) (f .leaves) (shows-none (noRoom (f .leaves) (f .table)) 15 (slot .pos) (none-first _ _ e')) in omega (arith, room-most (f .table)), k .1))) (λ e. (each-none Numbered, k))
+      (λ e. (
+        leaf-lacks slot so (left f),
+        k .0,
+        λ e'.
+            (let r = leb-false (room (f .table)) (f .leaves) (shows-none (noRoom (f .leaves) (f .table)) 15 (slot .pos) (none-first _ _ e')) in omega (arith, room-most (f .table)), k .1),
+      )) (λ e. (each-none Numbered, k))
 
   leaf-box : (id : ℕ) (slot : Slot) (so : LeafSo) (s : Box LeafBody) (f : Flow) (n b : ℕ) → n ≤ limit → b < 256 → Within (boxBounds leafBodyBounds s) → Flows t f →
       KeptIn t leafBounds Roomy (stepBoxes (leafBoxes id slot) wrapLeaf so s f n b)
@@ -227,7 +235,8 @@ module _ (t : ℕ) where
       boxes-kept t (leafBoxes id slot) wrapLeaf leafBounds Roomy (λ g h. h) (λ a h y. y) leafBodyBounds Fine (λ a x y. y) (λ a r g m h. leaf-next slot (leafNow a r) g m h)
       (λ a kept m. pick-holds (Each Numbered) (eqb m (slot .end)) _ _ (λ e. leaf-lacks slot a kept) (λ e. each-none Numbered))
       so s f n b
-      (box-kept t (leafKind id slot so) leafBodyBounds Fine (λ g h. h) (λ h g. leaf-faults (slot .pos) (so .moof) h g) (λ h g m e z. begin-leaf id (so .seen) h g m z) (step-leaf-body id) s f n b hn hb w k)
+      (box-kept t (leafKind id slot so) leafBodyBounds Fine (λ g h. h) (λ h g. leaf-faults (slot .pos) (so .moof) h g) (λ h g m e z. begin-leaf id (so .seen) h g m z)
+      (step-leaf-body id) s f n b hn hb w k)
 
   pub step-leaf : (id : ℕ) (slot : Slot) (s : LeafBoxes) (f : Flow) (n b : ℕ) → n ≤ limit → b < 256 → Within (leafBounds s) → Flows t f → KeptIn t leafBounds Roomy (stepLeaf id slot s f n b)
   unfolding stepLeaf leafBounds

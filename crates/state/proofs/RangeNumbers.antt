@@ -36,8 +36,10 @@ use Rattle.state.specs.declared.Stage.{Stage}
 use Rattle.state.specs.declared.Stage.the-variants as stage
 use Rattle.state.specs.Levels.{depth}
 use Rattle.state.specs.Sidx.{Place, topmost, under, partOf, wideMore, wordPlace}
-use Rattle.state.specs.Ranges.{Within, spelled, headBounds, trafMost, trafBodyBounds, trafBounds, moofBodyBounds, moofBounds, leafBodyBounds, leafBounds, indexMost, sidxBounds, openingBodyBounds, openingBounds, gapBounds, topBounds, levelsBounds, slotBounds, innerBounds, stageBounds}
-use Rattle.state.specs.Numbers.{headNumber, sidxNumber, trafBodyNumber, trafNumber, moofBodyNumber, moofNumber, leafBodyNumber, leafNumber, openingBodyNumber, openingNumber, gapNumber, innerNumber, stageNumber, Short, Fits}
+use Rattle.state.specs.Ranges.{Within, spelled, headBounds, trafMost, trafBodyBounds, trafBounds, moofBodyBounds, moofBounds, leafBodyBounds, leafBounds, indexMost, sidxBounds}
+use Rattle.state.specs.Ranges.{openingBodyBounds, openingBounds, gapBounds, topBounds, levelsBounds, slotBounds, innerBounds, stageBounds}
+use Rattle.state.specs.Numbers.{headNumber, sidxNumber, trafBodyNumber, trafNumber, moofBodyNumber, moofNumber, leafBodyNumber, leafNumber, openingBodyNumber, openingNumber, gapNumber}
+use Rattle.state.specs.Numbers.{innerNumber, stageNumber, Short, Fits}
 use Rattle.state.proofs.RangeTests.{spelled-first, spelled-within, four-within}
 
 -- a number of fewer bytes has at most eight

@@ -68,7 +68,8 @@ module _ (t : ℕ) where
       pick-kept t openingBodyBounds Opens (is h styp) _ _ (spelled-first 3 3 (omega arith), k)
       (pick-kept t openingBodyBounds Opens (is h sidx) _ _ (sidx-starts, k) (skip-opening (boxEnd h) f n k))
 
-  step-opening-body : (brand : ℕ) (s : OpeningBody) (f : Flow) (n b : ℕ) → n ≤ limit → b < 256 → Within (openingBodyBounds s) → Flows t f → KeptIn t openingBodyBounds Opens (stepOpeningBody brand s f n b)
+  step-opening-body : (brand : ℕ) (s : OpeningBody) (f : Flow) (n b : ℕ) → n ≤ limit → b < 256 → Within (openingBodyBounds s) → Flows t f →
+      KeptIn t openingBodyBounds Opens (stepOpeningBody brand s f n b)
   unfolding stepOpeningBody openingBodyBounds
   step-opening-body brand (body.Skip stop) f n b hn hb w k = skip-opening stop f (suc n) k
   step-opening-body brand (body.Styp span p found zero acc) f n b hn hb w k = styp-ends brand span p found (acc * 256 + b) f (suc n) k
@@ -90,7 +91,8 @@ module _ (t : ℕ) where
       (λ a kept m. each-none Numbered) branded s f n b
       (box-kept t (openingBox brand branded) openingBodyBounds Opens (λ g h. h) (λ h g. opening-faults branded h) (λ h g m e z. begin-opening h g m z) (step-opening-body brand) s f n b hn hb w k)
 
-  pub step-opening : (brand : ℕ) (s : OpeningBoxes) (f : Flow) (n b : ℕ) → n ≤ limit → b < 256 → Within (openingBounds s) → Flows t f → KeptIn t openingBounds (Read t topmost) (stepOpening brand s f n b)
+  pub step-opening : (brand : ℕ) (s : OpeningBoxes) (f : Flow) (n b : ℕ) → n ≤ limit → b < 256 → Within (openingBounds s) → Flows t f →
+      KeptIn t openingBounds (Read t topmost) (stepOpening brand s f n b)
   unfolding stepOpening openingBounds
   step-opening brand (boxes.Head branded h) f n b hn hb w k = opening-box brand branded (inHead h) f n b hn hb w k
   step-opening brand (boxes.Body branded s) f n b hn hb w k = opening-box brand branded (inBody s) f n b hn hb w k

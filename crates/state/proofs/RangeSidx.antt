@@ -23,7 +23,8 @@ use Rattle.state.specs.declared.EntryPart.the-variants as entry
 use Rattle.state.specs.declared.Sidx.{Sidx}
 use Rattle.state.specs.declared.Sidx.the-variants as sidx
 use Rattle.state.specs.Flow.{Flow, left}
-use Rattle.state.specs.Sidx.{Place, topmost, under, sidxStart, sidxVersionFaults, idFaults, scaleFaults, timeFaults, offsetFaults, countFaults, sumFaults, wideMore, indexOf, closeSidx, fieldEnds, entrySizeFaults, entryEnds, keepByte, stepSidx}
+use Rattle.state.specs.Sidx.{Place, topmost, under, sidxStart, sidxVersionFaults, idFaults, scaleFaults, timeFaults, offsetFaults, countFaults, sumFaults, wideMore, indexOf, closeSidx}
+use Rattle.state.specs.Sidx.{fieldEnds, entrySizeFaults, entryEnds, keepByte, stepSidx}
 use Rattle.state.specs.Ranges.{Bound, atMost, below, Within, spelled, indexMost, scaleLeast, draftBounds, sizesRead, durationsRead, sumsBounds, sidxBounds}
 use Rattle.state.proofs.RangeTests.{within-append, within-first, spelled-first, spelled-next, spelled-last}
 use Rattle.state.proofs.RangeKept.{Numbered, Flows, KeptIn, shown, both, unless-kept}
@@ -139,10 +140,12 @@ module _ (t : ℕ) (p : Place) where
   pub step-sidx : (span : Span) (s : Sidx) (f : Flow) (n b : ℕ) → b < 256 → Within (sidxBounds s) → Flows t f → KeptIn t sidxBounds Read (stepSidx p span s f n b)
   unfolding stepSidx sidxBounds
   step-sidx span (sidx.Field i d zero acc) f n b hb w k =
-      field-ends span i d (acc * 256 + b) f (suc n) (within-first (draftBounds (scaleLeast i) d) (spelled (indexMost i (d .wide)) zero acc) w) (spelled-last (indexMost i (d .wide)) acc b hb (w .1 .1 .1)) k
+      field-ends span i d (acc * 256 + b) f (suc n) (within-first (draftBounds (scaleLeast i) d) (spelled (indexMost i (d .wide)) zero acc) w)
+      (spelled-last (indexMost i (d .wide)) acc b hb (w .1 .1 .1)) k
   step-sidx span (sidx.Field i d (suc m) acc) f n b hb w k = ((w .0, (w .1 .0, (w .1 .1 .0, spelled-next (indexMost i (d .wide)) m acc b hb (w .1 .1 .1)))), k)
   step-sidx span (sidx.Entry e d s zero acc) f n b hb w k =
-      entry-ends span e d s (acc * 256 + b) (keepByte p e s f 0 b) (suc n) (within-first (draftBounds 1 d) (sumsBounds e s ++ spelled 3 zero acc) w) (within-first (sumsBounds e s) (spelled 3 zero acc) (w .1 .1 .1)) (spelled-last 3 acc b hb (w .1 .1 .1 .1 .1 .1 .1)) k
+      entry-ends span e d s (acc * 256 + b) (keepByte p e s f 0 b) (suc n) (within-first (draftBounds 1 d) (sumsBounds e s ++ spelled 3 zero acc) w)
+      (within-first (sumsBounds e s) (spelled 3 zero acc) (w .1 .1 .1)) (spelled-last 3 acc b hb (w .1 .1 .1 .1 .1 .1 .1)) k
   step-sidx span (sidx.Entry e d s (suc m) acc) f n b hb w k = (
     within-append (draftBounds 1 d) (sumsBounds e s ++ spelled 3 m (acc * 256 + b)) (within-first (draftBounds 1 d) (sumsBounds e s ++ spelled 3 (suc m) acc) w)
         (within-append (sumsBounds e s) (spelled 3 m (acc * 256 + b)) (within-first (sumsBounds e s) (spelled 3 (suc m) acc) (w .1 .1 .1)) (spelled-next 3 m acc b hb (w .1 .1 .1 .1 .1 .1 .1))),

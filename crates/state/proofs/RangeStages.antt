@@ -35,10 +35,11 @@ use Rattle.state.specs.Rows.{is, topLengths, innerFaults}
 use Rattle.state.specs.Opening.{stepOpening}
 use Rattle.state.specs.Sidx.{topmost, under, stepSidx}
 use Rattle.state.specs.Leaf.{leafSo0, stepLeaf}
-use Rattle.state.specs.Levels.{entryAt, entryPlace, inmost, depth, tookEntry, push, stillOpen, entryFaults, slotOf}
-use Rattle.state.specs.declared.StoredEntry.{StoredEntry}
-use Rattle.state.specs.Stages.{topOf, topLevel, indexEnds, InnerBody, liftSidx, innerKind, wrapInner, innerLevel, stepInner, onward, follow, leafRecord, stepInLeaf, stepSlot, stepEntry, stepGap, stepStage}
-use Rattle.state.specs.Ranges.{Bound, atMost, below, Within, headBounds, sidxBounds, openingBounds, gapBounds, leafBounds, topBounds, levelBounds, levelsBounds, slotBounds, innerBounds, stageBounds}
+use Rattle.state.specs.Levels.{Entry, entryAt, entryPlace, inmost, depth, tookEntry, push, stillOpen, entryFaults, slotOf}
+use Rattle.state.specs.Stages.{topOf, topLevel, indexEnds, InnerBody, liftSidx, innerKind, wrapInner, innerLevel, stepInner, onward, follow, leafRow, stepInLeaf, stepSlot, stepEntry, stepGap}
+use Rattle.state.specs.Stages.{stepStage}
+use Rattle.state.specs.Ranges.{Bound, atMost, below, Within, headBounds, sidxBounds, openingBounds, gapBounds, leafBounds, topBounds, levelBounds, levelsBounds, slotBounds, innerBounds}
+use Rattle.state.specs.Ranges.{stageBounds}
 use Rattle.state.proofs.RangeTests.{within-append, within-first, within-second, within-three, three-within, within-four, four-within}
 use Rattle.state.proofs.RangeKept.{Numbered, Flows, Refuses, Goes, KeptIn, shown, both, boxBounds, box-kept}
 use Rattle.state.proofs.RangeLeaf.{top-lengths, Roomy, step-leaf}
@@ -75,7 +76,8 @@ index-ends : (t : ℕ) (x : Index) (f : Flow) (n : ℕ) → Read t topmost x f �
 unfolding indexEnds stageBounds levelsBounds inmost gapBounds headBounds Ends
 index-ends t x f n r =
     pick-holds StageKept (eqb (x .offset) 0) _ _
-    (λ e. follow-kept (topOf x) (levels.One (topLevel x n)) (withNow f (x .time)) (let w = r .0 in let k : x .time + x .durations < _ = r .1 .1 in omega arith) (let w = r .0 in omega arith) (omega arith) (r .2 .0))
+    (λ e. follow-kept (topOf x) (levels.One (topLevel x n)) (withNow f (x .time))
+    (let w = r .0 in let k : x .time + x .durations < _ = r .1 .1 in omega arith) (let w = r .0 in omega arith) (omega arith) (r .2 .0))
     (λ e. (let w = r .0 in let k : x .time + x .durations < _ = r .1 .1 in omega arith, r .2 .0))
 
 -- an entry that is being read: what is known around it, when it starts at the time `t`

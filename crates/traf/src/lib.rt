@@ -366,7 +366,10 @@ fn falls(seen: Seen, reference: bool, v: u64) -> bool
 
 // A `tfdt` ends with its decode time.
 fn time_end(span: Span, so: TrafSo, reference: bool, pos: u64, v: u64, n: u64) -> TrafStep
-    ensures { λ r. ⌜ ((id : ℕ) (f : Flow) → viewTraf f r ≡ goOn (trafBoxes id span) wrapTraf (trafNext span (trafNow so (timed reference pos v)) (fallFaults (so .seen .last) (timed reference pos v)) n) f) ⌝ }
+    ensures { λ r. ⌜
+        ((id : ℕ) (f : Flow) → viewTraf f r
+        ≡ goOn (trafBoxes id span) wrapTraf (trafNext span (trafNow so (timed reference pos v)) (fallFaults (so .seen .last) (timed reference pos v)) n) f)
+        ⌝ }
 {
     let seen = so.seen;
     if falls(seen, reference, v) {

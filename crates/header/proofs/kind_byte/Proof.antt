@@ -19,7 +19,8 @@ unfolding stepHead
 returns-2 c =
     let a = c .before .before .args in
     λ f. rw (c .before .spelled .ensures)
-    (one-fewer (λ m. stepHead left (a .end) (at.Kind (a .pos) (a .size) m (a .acc)) f (a .n) (a .b)) (λ m. go (at.Kind (a .pos) (a .size) m (a .acc * 256 + a .b)) f) (λ m. refl) (a .more) (c .if1 .left))
+    (one-fewer (λ m. stepHead left (a .end) (at.Kind (a .pos) (a .size) m (a .acc)) f (a .n) (a .b)) (λ m. go (at.Kind (a .pos) (a .size) m (a .acc * 256 + a .b)) f)
+    (λ m. refl) (a .more) (c .if1 .left))
 
 pub kind-byte-spec : {M : Type 1} → statement M
 kind-byte-spec = tie.close (tie.spec (search needs) (search needs) returns (search needs) returns-2)

@@ -19,7 +19,8 @@ unfolding stepHead
 returns-2 c =
     let a = c .before .before .args in
     λ f. rw (c .before .spelled .ensures)
-    (one-fewer (λ m. stepHead left (a .end) (at.Large (a .pos) (a .kind) m (a .acc)) f (a .n) (a .b)) (λ m. go (at.Large (a .pos) (a .kind) m (a .acc * 256 + a .b)) f) (λ m. refl) (a .more) (c .if1 .left))
+    (one-fewer (λ m. stepHead left (a .end) (at.Large (a .pos) (a .kind) m (a .acc)) f (a .n) (a .b)) (λ m. go (at.Large (a .pos) (a .kind) m (a .acc * 256 + a .b)) f)
+    (λ m. refl) (a .more) (c .if1 .left))
 
 pub large-byte-spec : {M : Type 1} → statement M
 large-byte-spec = tie.close (tie.spec (search needs) returns (search needs) returns-2)
