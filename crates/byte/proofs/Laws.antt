@@ -31,12 +31,11 @@ use Rattle.state.specs.Places.{stageByte, storedAt}
 use Rattle.state.specs.Step.{settle, entryShows, overLimit, step, run}
 use Rattle.state.specs.Numbers.{stageNumber, putIn, Short}
 use Rattle.state.specs.Calls.{Out, out, flowOf, stateOf, workOf, tableOf, answerOf, fed, feedState}
-use Rattle.state.specs.Ranges.{atMost, below, Within, topBounds, levelsBounds, stageBounds, bounds, InRange}
+use Rattle.state.specs.Ranges.{Within, stageBounds, bounds, InRange}
 use Rattle.state.proofs.Stage.{the-type}
 use Rattle.state.proofs.Jump.{past-none}
 use Rattle.state.proofs.Places.{stage-stored}
 use Rattle.state.proofs.RangeNumbers.{stage-fits}
-use Rattle.state.proofs.RangeTests.{three-within}
 use Rattle.state.proofs.Ranges.{feed-state-kept}
 use Rattle.next_stage.specs.declared.StageStep.{StageStep}
 use Rattle.next_stage.specs.declared.StageStep.the-variants as steps
@@ -102,13 +101,6 @@ module _ (s : Stage) (top : Top) (ls : Levels) (f : Flow) (x : Refusal) (r : Ent
   pub stands-over : (inner : Bool) (slot : Slot) → r ≡ read.Stands inner slot → x ≡ overLimit s f limit x
   unfolding overLimit entryShows shows unless
   stands-over inner slot e = rw (same, chosen _ _ _ _ _ (sym k ∙ e) .0)
-
--- the ranges before an entry
-pub entry-inside : (s : Stage) (top : Top) (ls : Levels) (now : ℕ) → s ≡ stage.Entry top ls → Within (stageBounds s now) → Within (levelsBounds ls) × (inmost ls .next < inmost ls .count)
-unfolding stageBounds
-entry-inside s top ls now e w =
-    let v = three-within (topBounds top) (levelsBounds ls) (below (inmost ls .next) (inmost ls .count) ∷ atMost now (inmost ls .until) ∷ []) (rw e at w) in
-    (v .1, v .2 .0)
 
 -- one byte of a number, told in the code's words
 put-none : (place : Option ℕ) (more b : ℕ) (work : List ℕ) → isStored place ≡ false → work ≡ putIn place more work (b ∷ [])

@@ -48,14 +48,6 @@ module _ (top : Top) (ls : Levels) (f : Flow) (n b : ℕ) where
   inner-step slot d (inners.Head h) e = ap (λ (k : ℕ). liftInner top ls slot (stepBox (innerKind top slot k) (boxOf (inners.Head h)) f n b)) e
   inner-step slot d (inners.Body span s) e = ap (λ (k : ℕ). liftInner top ls slot (stepBox (innerKind top slot k) (boxOf (inners.Body span s)) f n b)) e
 
-  pub slot-inner : (inner : Bool) (slot : Slot) → inner ≡ true → stepStage (stage.Inner top ls slot (inners.Head at.First)) f n b ≡ stepSlot top ls inner slot f n b
-  unfolding stepStage stepSlot
-  slot-inner inner slot e = rw e
-
-  pub slot-leaf : (inner : Bool) (slot : Slot) → inner ≡ false → stepStage (stage.Leaf top ls slot (leafBox.Head (leafSo0 (f .last)) at.First)) f n b ≡ stepSlot top ls inner slot f n b
-  unfolding stepStage stepSlot
-  slot-leaf inner slot e = rw e
-
 -- what an entry read back comes to, by whether it was altered
 pub chosen : (t i inner : Bool) (s slot : Slot) → pick t read.Altered (read.Stands i s) ≡ read.Stands inner slot → (t ≡ false) × (i ≡ inner) × (s ≡ slot)
 unfolding pick

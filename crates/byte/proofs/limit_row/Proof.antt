@@ -3,7 +3,8 @@ use mathlib.Core.Path.{_∙_}
 use Rattle.segment.specs.Constants.{limit}
 use Rattle.machine.specs.Faults.{refusal}
 use Rattle.state.specs.Calls.{flowOf}
-use Rattle.byte.proofs.Laws.{elsewhere-over, altered-over, stands-over, entry-inside}
+use Rattle.stage.proofs.Entries.{entry-within}
+use Rattle.byte.proofs.Laws.{elsewhere-over, altered-over, stands-over}
 use borrow.Author.Needs.{needs}
 use Rattle.byte.proofs.limit_row.Statement.{statement}
 use Rattle.byte.proofs.limit_row.Tie as tie
@@ -17,7 +18,7 @@ read-back-requires : tie.Need-read-back-requires
 read-back-requires c κs =
     let arm = c .before in
     let d = arm .before .before .before .before in
-    let inside = entry-inside (d .args .s) _ _ (d .args .at) (arm .s .given .1) (d .pre .1) in
+    let inside = entry-within (d .args .s) (d .args .at) _ _ (arm .s .given .1) (d .pre .1) in
     (d .pre .0, inside .0, inside .1)
 
 returns-2 : tie.Need-returns-2

@@ -1,8 +1,7 @@
--- `stage::slot_byte` meets its contract, by those of `inner_stage` and `leaf_stage`, and by the laws `slot-inner`, `slot-leaf`, `leaf-first` and
--- `inner-first`.
-use mathlib.Core.Path.{_∙_}
-use Rattle.next_stage.specs.Views.{flowing}
-use Rattle.stage.proofs.Entries.{slot-inner, slot-leaf, leaf-first, inner-first}
+-- `stage::slot_byte` meets its contract, by those of `inner_stage` and `leaf_stage`, by the laws `leaf-first` and `inner-first`, and by the
+-- definitions of `stepStage` and `stepSlot`.
+use Rattle.stage.proofs.Entries.{leaf-first, inner-first}
+use Rattle.state.specs.Stages.{stepSlot, stepStage}
 use borrow.Author.Needs.{needs}
 use Rattle.stage.proofs.slot_byte.Statement.{statement}
 use Rattle.stage.proofs.slot_byte.Tie as tie
@@ -14,12 +13,8 @@ inner-stage-requires c κs =
     (start .pre .0, start .pre .1, start .pre .3, inner-first (a .ls))
 
 returns : tie.Need-returns
-returns c =
-    let stepped = c .before .before in
-    let test = stepped .before .before in
-    let a = test .before .before .before .args in
-    stepped .inner-stage .ensures (a .table .now)
-    ∙ slot-inner (a .top) (a .ls) (flowing (a .r) (a .work .now) (a .table .now)) (a .n) (a .b) (a .inner) (a .slot) (test .if1 .taken)
+unfolding stepStage stepSlot
+returns c = let stepped = c .before .before in rw (stepped .before .before .if1 .taken) (stepped .inner-stage .ensures _)
 
 leaf-stage-requires : tie.Need-leaf-stage-requires
 leaf-stage-requires c κs =
@@ -28,11 +23,8 @@ leaf-stage-requires c κs =
     (start .pre .0, start .pre .2, leaf-first (a .r .last))
 
 returns-2 : tie.Need-returns-2
-returns-2 c =
-    let stepped = c .before .before in
-    let test = stepped .before .before in
-    let a = test .before .before .before .args in
-    stepped .leaf-stage .ensures (a .work .now) ∙ slot-leaf (a .top) (a .ls) (flowing (a .r) (a .work .now) (a .table .now)) (a .n) (a .b) (a .inner) (a .slot) (test .if1 .left)
+unfolding stepStage stepSlot
+returns-2 c = let stepped = c .before .before in rw (stepped .before .before .if1 .left) (stepped .leaf-stage .ensures _)
 
 pub slot-byte-spec : {M : Type 1} → statement M
 slot-byte-spec =
