@@ -3,3 +3,4 @@ pub mod Tests
 pub mod Options
 pub mod Bytes
 pub mod Outcomes
+pub mod Put

@@ -6,7 +6,7 @@ ghost use Prim.Native.Nat.{ℕ, _<_, _≤_};
 ghost use lib.Dec.{eqb, leb};
 ghost use lib.ListN.{length};
 ghost use Rattle.basics.specs.Choose.{pick};
-ghost use Rattle.segment.specs.Constants.{limit, workBytes, levels, styp, sidx};
+ghost use Rattle.segment.specs.Constants.{limit, levels, styp, sidx};
 ghost use Rattle.machine.specs.Heads.{sizeFaults};
 ghost use Rattle.machine.specs.Lists.{headed, stepBox};
 ghost use Rattle.state.specs.Flow.{Flow, workBytes};

@@ -3,7 +3,8 @@ use mathlib.Core.Path.{refl}
 use mathlib.Core.Bool.{Bool, true, false}
 use mathlib.Core.List.{[], _∷_}
 use Rattle.basics.specs.Choose.{pick}
-use Rattle.state.specs.Flow.{Flow, room}
+use Rattle.state.specs.Flow.{Flow}
+use Rattle.table.specs.Table.{room}
 use Rattle.state.specs.Calls.{flowOf}
 use Rattle.leaf.specs.Leaf.{RoomIs}
 

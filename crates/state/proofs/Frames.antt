@@ -12,7 +12,8 @@ use native.Mathlib.Omega.{arith}
 use Rattle.basics.proofs.Put.{put-length, put-before, put-past}
 use Rattle.table.specs.declared.Record.{Record}
 use Rattle.basics.specs.Choose.{pick}
-use Rattle.segment.specs.Constants.{limit, workBytes, recordNumbers, moof, traf, tfhd, tfdt, styp, sidx}
+use Rattle.segment.specs.Constants.{limit, moof, traf, tfhd, tfdt, styp, sidx}
+use Rattle.table.specs.Table.{recordNumbers, putRecord, numbersOf}
 use Rattle.machine.specs.Faults.{refusal, shows, unless, lowest}
 use Rattle.machine.specs.Run.{Sub, go, done, bad, lift}
 use Rattle.machine.specs.Heads.{boxEnd}
@@ -78,8 +79,9 @@ use Rattle.state.specs.Traf.{nothing, trafEnds, beginTraf, stepTrafBody,
 use Rattle.state.specs.Leaf.{skipped, seeing, beginMoof, stepMoofBody, moofKind, moofNext, moofBoxes, wrapMoof, stepMoof, beginMoofBoxes, beginLeaf, stepLeafBody, leafKind, leafBoxes, wrapLeaf}
 use Rattle.state.specs.Leaf.{stepLeaf, leafSo0}
 use Rattle.state.specs.Opening.{passed, indexed, spanOf, unlisted, brandsFrom, stypEnds, beginOpening, stepOpeningBody, openingBox, opening, wrapOpening, stepOpening}
-use Rattle.state.specs.Levels.{Entry, entryAt, entryPlace, inmost, depth, tookEntry, push, stillOpen, entryFaults, slotOf}
-use Rattle.state.specs.Stages.{gapKind, gapBoxes, wrapGap, stepGap, onward, follow, topOf, topLevel, indexEnds, InnerBody, innerKind, innerLevel, stepInner, leafRow, liftLeaf, stepInLeaf}
+use Rattle.state.specs.Levels.{entryAt, entryPlace, inmost, depth, tookEntry, push, stillOpen, entryFaults, slotOf}
+use Rattle.state.specs.declared.StoredEntry.{StoredEntry}
+use Rattle.state.specs.Stages.{gapKind, gapBoxes, wrapGap, stepGap, onward, follow, topOf, topLevel, indexEnds, InnerBody, innerKind, innerLevel, stepInner, leafRecord, liftLeaf, stepInLeaf}
 use Rattle.state.specs.Stages.{stepSlot, stepEntry, stepStage}
 use Rattle.state.specs.Places.{sidxByte, openingBodyByte, openingByte, stageByte, storedAt}
 use Rattle.state.specs.Step.{World, reading, ended, refused, settle, overLimit, leftOver, step, run}
@@ -290,7 +292,7 @@ record Framed (l : Left) (place : Option ℕ) (b : ℕ) (l' : Left) : Type 0 whe
 framed-storing : (f : Flow) (place : Option ℕ) (b : ℕ) (l : Left) → l ≡ storing f place b → Framed (left f) place b l
 framed-storing f place b l e = rw e (record { works = refl; one = omega arith; grown = grown-same (f .leaves) (f .table) })
 
-framed-listed : (f g : Flow) (b now first last : ℕ) (slot : Slot) → left g ≡ left f → Framed (left f) none b (left (listed g (leafRow slot now first) (slot .until) last))
+framed-listed : (f g : Flow) (b now first last : ℕ) (slot : Slot) → left g ≡ left f → Framed (left f) none b (left (listed g (leafRecord slot now first) (slot .until) last))
 unfolding storedAt listed
 framed-listed f g b now first last slot e =
     rw (← e) (record { works = refl; one = omega arith; grown = grown-one (g .leaves) (g .table) (leafRecord slot now first) })
@@ -329,7 +331,7 @@ listing-frames : (top : Top) (ls : Levels) (slot : Slot) (f : Flow) (b : ℕ) (r
 unfolding lift leftIn
 listing-frames top ls slot f b (go s g) e = frames-none f b (go (stage.Leaf top ls slot s) g) e
 listing-frames top ls slot f b (done seen g) e =
-    let g' = listed g (leafRow slot (g .now) (seen .first)) (slot .until) (seen .last) in
+    let g' = listed g (leafRecord slot (g .now) (seen .first)) (slot .until) (seen .last) in
     (rw (onward-left top (stillOpen ls) g') (framed-listed f g b (g .now) (seen .first) (seen .last) slot e), onward-unlisted f top (stillOpen ls) g')
 listing-frames top ls slot f b (bad x kept) e = frames-none f b (bad x kept) e
 
@@ -369,7 +371,7 @@ unfolding stepStage stageByte stepEntry
 stage-frames (stage.Opening brand s) f n b = frames-storing f (openingByte s) b _ (opening-stage-left brand s f n b)
 stage-frames (stage.Gap top l end s) f n b = frames-none f b _ (gap-stage-left top l end s f n b)
 stage-frames (stage.Entry top ls) f n b =
-    let e : Entry = entryAt (f .work) (entryPlace ls) in
+    let e : StoredEntry = entryAt (f .work) (entryPlace ls) in
     frames-unless (entryFaults (inmost ls) e (f .now) n) f b _ (slot-frames top (tookEntry ls) (e .inner) (slotOf e (f .now) n) f n b)
 stage-frames (stage.Leaf top ls slot s) f n b = leaf-frames top ls slot s f n b
 stage-frames (stage.Inner top ls slot (inners.Head h)) f n b = frames-none f b _ (inner-head-left top ls slot h f n b)

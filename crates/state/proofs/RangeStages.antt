@@ -35,8 +35,9 @@ use Rattle.state.specs.Rows.{is, topLengths, innerFaults}
 use Rattle.state.specs.Opening.{stepOpening}
 use Rattle.state.specs.Sidx.{topmost, under, stepSidx}
 use Rattle.state.specs.Leaf.{leafSo0, stepLeaf}
-use Rattle.state.specs.Levels.{Entry, entryAt, entryPlace, inmost, depth, tookEntry, push, stillOpen, entryFaults, slotOf}
-use Rattle.state.specs.Stages.{topOf, topLevel, indexEnds, InnerBody, liftSidx, innerKind, wrapInner, innerLevel, stepInner, onward, follow, leafRow, stepInLeaf, stepSlot, stepEntry, stepGap}
+use Rattle.state.specs.Levels.{entryAt, entryPlace, inmost, depth, tookEntry, push, stillOpen, entryFaults, slotOf}
+use Rattle.state.specs.declared.StoredEntry.{StoredEntry}
+use Rattle.state.specs.Stages.{topOf, topLevel, indexEnds, InnerBody, liftSidx, innerKind, wrapInner, innerLevel, stepInner, onward, follow, leafRecord, stepInLeaf, stepSlot, stepEntry, stepGap}
 use Rattle.state.specs.Stages.{stepStage}
 use Rattle.state.specs.Ranges.{Bound, atMost, below, Within, headBounds, sidxBounds, openingBounds, gapBounds, leafBounds, topBounds, levelBounds, levelsBounds, slotBounds, innerBounds}
 use Rattle.state.specs.Ranges.{stageBounds}
