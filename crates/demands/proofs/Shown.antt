@@ -6,7 +6,6 @@ use mathlib.Core.Option.{Option, none}
 use mathlib.Core.Bool.{Bool, true, false, not, and-true, and-false}
 use lib.Dec.{eqb, ltb}
 use borrow.Author.Tests.{eqb-true, lt-leb}
-use Rattle.table.specs.Table.{room}
 use Rattle.basics.specs.Choose.{pick}
 use Rattle.segment.specs.Constants.{styp, sidx, moof, mdat, levels}
 use Rattle.segment.specs.Boxes.{topKinds, among}

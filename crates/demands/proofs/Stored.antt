@@ -10,7 +10,6 @@ use lib.ListN.{length, getD, take, drop, length-append, length-take, length-drop
 use lib.Seq.{ext-getD, getD-take, getD-drop, take-append-le, drop-append-le, drop-append-add, drop-drop, length-take-le}
 use borrow.Author.Tests.{leb-true, leb-false, eq-eqb, ne-eqb}
 use Rattle.basics.proofs.Put.{put-length, put-before, put-between}
-use Rattle.table.specs.Table.{room}
 use Rattle.basics.specs.Choose.{pick, andThen}
 use Rattle.basics.specs.Bytes.{number}
 use Rattle.basics.proofs.Options.{then-inv, pick-else}

@@ -9,7 +9,6 @@ use lib.Dec.{eqb}
 use lib.ListN.{length, take, drop, take-append-drop, length-drop}
 use lib.Seq.{length-take-le}
 use borrow.Author.Tests.{eq-eqb, ne-eqb, le-ltb, lt-leb}
-use Rattle.table.specs.Table.{room}
 use Rattle.basics.specs.Choose.{pick, andThen}
 use Rattle.segment.specs.Constants.{entryBytes, mostEntries}
 use Rattle.segment.specs.Boxes as tree

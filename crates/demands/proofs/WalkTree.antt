@@ -8,7 +8,6 @@ use native.Mathlib.Omega.{arith}
 use lib.Dec.{eqb, ltb}
 use lib.ListN.{length, drop}
 use borrow.Author.Tests.{eqb-true, ne-eqb, ltb-true, lt-ltb}
-use Rattle.table.specs.Table.{room}
 use Rattle.basics.specs.Choose.{pick, andThen}
 use Rattle.basics.proofs.Picks.{pick-yes, pick-no, pick-if, pick-both}
 use Rattle.basics.proofs.Options.{absurd-some, then-cong, then-none, then-assoc, then-some, then-pick, then-inv, pick-else, pick-then}

@@ -3,6 +3,7 @@
 use mathlib.Core.Path.{sym, _∙_}
 use Rattle.basics.proofs.Bytes.{each-byte-all}
 use Rattle.feed.proofs.Laws.{feeds-short, feeds-outside, feeds-inside}
+use Rattle.state.proofs.RangeTests.{in-range as within-range}
 use borrow.Author.Needs.{needs}
 use Rattle.feed.proofs.feed.Statement.{statement}
 use Rattle.feed.proofs.feed.Tie as tie
