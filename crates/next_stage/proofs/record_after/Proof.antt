@@ -1,4 +1,7 @@
--- `next_stage::row_after` meets its contract, by that of `put_row`, and by the definition of `tableAfter`.
+-- `next_stage::record_after` meets its contract, by those of `leaf_record` and `put_record`, and by the definition of `tableAfter`.
+use mathlib.Core.Path.{ap, _∙_}
+use Rattle.table.specs.declared.Record.{Record}
+use Rattle.table.specs.Table.{putRecord}
 use Rattle.next_stage.specs.Arms.{tableAfter}
 use borrow.Author.Needs.{needs}
 use Rattle.next_stage.proofs.record_after.Statement.{statement}
@@ -10,7 +13,13 @@ returns c = rw (c .enum-told .given .1)
 
 returns-2 : tie.Need-returns-2
 unfolding tableAfter
-returns-2 c = let at-put-row = c .before .before in rw (at-put-row .before .before .before .q .given .1) (at-put-row .put-row .ensures)
+returns-2 c =
+    let at-put = c .before .before in
+    let at-record = at-put .before in
+    let arm = at-record .before .before .before in
+    let a = arm .before .before .before .args in
+    rw (arm .q .given .1)
+    (at-put .put-record .ensures ∙ ap (λ (r : Record). putRecord (a .table .now) (a .leaves) r) (at-record .leaf-record .ensures))
 
 returns-3 : tie.Need-returns-3
 unfolding tableAfter
@@ -19,4 +28,5 @@ returns-3 c = rw (c .enum-told2 .given .1)
 pub record-after-spec : {M : Type 1} → statement M
 record-after-spec =
     tie.close
-    (tie.spec (search needs) (search needs) (search needs) (search needs) returns (search needs) returns-2 returns-3)
+    (tie.spec (search needs) (search needs) (search needs) (search needs) (search needs) returns (search needs) returns-2
+    returns-3)
