@@ -356,18 +356,12 @@ all-tests false scale time offset a b c d o sums give h = sym (no-entries a b c 
 scale-some : (p : Place) (span : Span) (v : ℕ) → clean (scaleFaults p span v) ≡ true → eqb v 0 ≡ false
 unfolding scaleFaults
 scale-some topmost span v e = not-true (eqb v 0) (sym (clean-shows (eqb v 0) 11 (span .pos)) ∙ e)
-scale-some (under top slot around) span v e =
-    not-true (eqb v 0)
-    (sym (clean-shows (eqb v 0) 11 (span .pos))
-    ∙ and-both (clean (shows (eqb v 0) 11 (span .pos))) (clean (shows (not (eqb v (top .scale))) 12 (span .pos)))
-    (sym (clean-append (shows (eqb v 0) 11 (span .pos)) (shows (not (eqb v (top .scale))) 12 (span .pos))) ∙ e) .0)
+scale-some (under top slot around) span v e = not-true (eqb v 0) (and-both _ _ (simp (clean-append, clean-shows) at e) .0)
 
 -- the version's faults: a version above 1, or version 1 in a box that is too short
 version-clean : (span : Span) (v n : ℕ) → clean (sidxVersionFaults span v n) ≡ not (ltb 1 v) && not (eqb v 1 && ltb (span .end) (n + 31))
 unfolding sidxVersionFaults
-version-clean span v n =
-    clean-append (shows (ltb 1 v) 10 (span .pos)) (shows (eqb v 1 && ltb (span .end) (n + 31)) 6 (span .pos))
-    ∙ rw (clean-shows (ltb 1 v) 10 (span .pos), clean-shows (eqb v 1 && ltb (span .end) (n + 31)) 6 (span .pos))
+version-clean span v n = simp (clean-append, clean-shows)
 
 -- a version that shows no fault, in a box of 24 bytes or more
 version-rooms : (span : Span) (v n l : ℕ) (xs : List ℕ) → n + l ≡ span .end → 24 ≤ l → not (ltb 1 v) && not (eqb v 1 && ltb (span .end) (n + 1 + 31)) ≡ true →
@@ -510,9 +504,7 @@ module _ {X : Type 0} (p : Place) (span : Span) (h : Index → Flow → ℕ → 
   count-tree d v f n zs ys e =
       let same : eqb (span .end) (n + entryBytes * v) ≡ eqb (length zs) (entryBytes * v) =
       same-test (span .end) (n + entryBytes * v) (length zs) (entryBytes * v) (λ q. omega arith) (λ q. omega arith) in
-      let tests : clean (countFaults span v n) ≡ not (not (eqb (length zs) (entryBytes * v))) && not (eqb v 0 || ltb mostEntries v) =
-      clean-append (shows (not (eqb (span .end) (n + entryBytes * v))) 6 (span .pos)) _
-      ∙ rw (clean-shows (not (eqb (span .end) (n + entryBytes * v))) 6 (span .pos), clean-shows (eqb v 0 || ltb mostEntries v) 11 (span .pos), same) in
+      let tests : clean (countFaults span v n) ≡ not (not (eqb (length zs) (entryBytes * v))) && not (eqb v 0 || ltb mostEntries v) = simp (clean-append, clean-shows, same) in
       upon-unless (countFaults span v n) _ _ _ h
       ∙ ap (λ t. pick t (upon (countedD p span d v v f n (zs ++ ys)) h) none) tests
       ∙ count-tests (eqb v 0) (ltb mostEntries v) (eqb (length zs) (entryBytes * v)) _ _
@@ -746,15 +738,6 @@ pub suits-under : (top : Top) (slot : Slot) (around : ℕ) (span : Span) (i : tr
 unfolding suits idFaults scaleFaults timeFaults offsetFaults sumFaults
 suits-under top slot around span i now l =
     let q : eqb (i .scale) 0 ≡ false = ne-eqb (i .scale) 0 (λ z. omega arith) in
-    rw (
-      clean-append (shows (eqb (i .scale) 0) 11 (span .pos)) (shows (not (eqb (i .scale) (top .scale))) 12 (span .pos)),
-      clean-shows (not (eqb (i .id) (top .id))) 12 (span .pos),
-      clean-shows (eqb (i .scale) 0) 11 (span .pos),
-      clean-shows (not (eqb (i .scale) (top .scale))) 12 (span .pos),
-      clean-shows (not (eqb (i .time) now)) 12 (span .pos),
-      clean-shows (not (eqb (i .offset) 0)) 12 (span .pos),
-      clean-shows (not (eqb (span .end + sizes (i .entries)) (slot .end) && eqb (now + durations (i .entries)) (slot .until))) 12 (span .pos),
-      q,
-    )
+    simp (clean-append, clean-shows, q)
     (inner-tests (eqb (i .id) (top .id)) (eqb (i .scale) (top .scale)) (eqb (i .time) now) (eqb (i .offset) 0)
     (eqb (span .end + sizes (i .entries)) (slot .end)) (eqb (now + durations (i .entries)) (slot .until)))
