@@ -42,8 +42,11 @@ within-both (x ∷ xs) ys = at (leb (x .low) (x .high)) (within-both xs ys)
     at false e = refl
 
 -- the tests of two lists of ranges are joined to the test of both
-pub joined : (xs ys : List Bound) {a b r : Bool} → a ≡ within xs → b ≡ within ys → r ≡ (a && b) → r ≡ within (xs ++ ys)
-joined xs ys {a} {b} p q e = e ∙ ap (λ (t : Bool). t && b) p ∙ ap (λ (t : Bool). within xs && t) q ∙ sym (within-both xs ys)
+pub joined : (xs ys : List Bound) {a b r : Bool} → r ≡ (a && b) → a ≡ within xs → b ≡ within ys → r ≡ within (xs ++ ys)
+joined xs ys {a} {b} e p q = e ∙ ap (λ (t : Bool). t && b) p ∙ ap (λ (t : Bool). within xs && t) q ∙ sym (within-both xs ys)
+
+pub joined-first : (x : Bound) (bs : List Bound) {a b r : Bool} → r ≡ (a && b) → a ≡ within (x ∷ []) → b ≡ within bs → r ≡ within (x ∷ bs)
+joined-first x bs = joined (x ∷ []) bs
 
 -- no number has more than 8 bytes
 wide-low : (w : Bool) → wideMore w < 8

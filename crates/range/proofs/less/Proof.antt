@@ -6,11 +6,9 @@ use Rattle.range.proofs.Joined.{first-fails, one-holds}
 use Rattle.range.proofs.less.Statement.{statement}
 use Rattle.range.proofs.less.Tie as tie
 
-returns : tie.Need-returns
-returns c = first-fails (suc (c .before .args .a)) (c .before .args .b) [] (omega arith)
-
-returns-2 : tie.Need-returns-2
-returns-2 c = one-holds (suc (c .before .args .a)) (c .before .args .b) (omega arith)
-
 pub less-spec : {M : Type 1} → statement M
-less-spec = tie.close (tie.spec returns returns-2)
+less-spec =
+    tie.close
+    (tie.spec
+    (λ c. first-fails (suc (c .before .args .a)) (c .before .args .b) [] (omega arith))
+    (λ c. one-holds (suc (c .before .args .a)) (c .before .args .b) (omega arith)))

@@ -9,15 +9,6 @@ use borrow.Author.Needs.{needs}
 use Rattle.range.proofs.spelling_fits.Statement.{statement}
 use Rattle.range.proofs.spelling_fits.Tie as tie
 
-returns : tie.Need-returns
-returns c = first-fails (c .before .args .more) (c .before .args .most) _ (omega arith)
-
-power-requires : tie.Need-power-requires
-power-requires c κs = search needs
-
-less-requires : tie.Need-less-requires
-less-requires c κs = search needs
-
 returns-2 : tie.Need-returns-2
 returns-2 c =
     let at-power = c .before in
@@ -27,4 +18,8 @@ returns-2 c =
     ∙ first-holds (a .more) (a .most) _ (omega arith)
 
 pub spelling-fits-spec : {M : Type 1} → statement M
-spelling-fits-spec = tie.close (tie.spec returns power-requires less-requires returns-2)
+spelling-fits-spec =
+    tie.close
+    (tie.spec
+    (λ c. first-fails (c .before .args .more) (c .before .args .most) _ (omega arith))
+    (search needs) (search needs) returns-2)

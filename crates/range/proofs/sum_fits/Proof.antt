@@ -8,14 +8,10 @@ use borrow.Author.Needs.{needs}
 use Rattle.range.proofs.sum_fits.Statement.{statement}
 use Rattle.range.proofs.sum_fits.Tie as tie
 
-sub-if1 : tie.Need-sub-if1
-sub-if1 c = search needs
-
-returns : tie.Need-returns
-returns c = first-fails (suc (c .before .args .a + c .before .args .b)) timeLimit [] (omega arith)
-
-returns-2 : tie.Need-returns-2
-returns-2 c = one-holds (suc (c .before .args .a + c .before .args .b)) timeLimit (omega arith)
-
 pub sum-fits-spec : {M : Type 1} → statement M
-sum-fits-spec = tie.close (tie.spec sub-if1 returns returns-2)
+sum-fits-spec =
+    tie.close
+    (tie.spec
+    (λ c. search needs)
+    (λ c. first-fails (suc (c .before .args .a + c .before .args .b)) timeLimit [] (omega arith))
+    (λ c. one-holds (suc (c .before .args .a + c .before .args .b)) timeLimit (omega arith)))

@@ -1,5 +1,5 @@
--- `range::sums_fit` meets its contract, by those of `sizes_summed`, `durations_summed`, `at_most` and `both`, and by the laws `first-holds`,
--- `first-fails`, `joined`, `sizes-read-low` and `durations-read-low`.
+-- `range::sums_fit` meets its contract, by those of `sizes_summed`, `durations_summed`, `at_most` and `both`, and by the laws `first-holds`, `first-fails`, `joined`, `sizes-read-low` and
+-- `durations-read-low`.
 use Prim.Native.Nat.{ℕ, suc, _*_}
 use mathlib.Core.Path.{ap, _∙_}
 use mathlib.Core.List.{[], _∷_}
@@ -11,20 +11,11 @@ use borrow.Author.Needs.{needs}
 use Rattle.range.proofs.sums_fit.Statement.{statement}
 use Rattle.range.proofs.sums_fit.Tie as tie
 
-returns : tie.Need-returns
-returns c = first-fails (suc (c .before .before .args .s .next)) (c .before .before .args .s .count) _ (omega arith)
-
 returns-2 : tie.Need-returns-2
 returns-2 c =
     let a = c .before .before .before .before .args in
     first-fails (a .s .count) mostEntries _ (omega arith)
     ∙ first-holds (suc (a .s .next)) (a .s .count) _ (omega arith)
-
-sizes-summed-requires : tie.Need-sizes-summed-requires
-sizes-summed-requires c κs = search needs
-
-durations-summed-requires : tie.Need-durations-summed-requires
-durations-summed-requires c κs = search needs
 
 mul-at-most : tie.Need-mul-at-most
 mul-at-most c =
@@ -36,9 +27,6 @@ mul-at-most c =
       sizes-read-low (a .e) (a .s .next),
     )
 
-at-most-requires : tie.Need-at-most-requires
-at-most-requires c κs = search needs
-
 mul-at-most-2 : tie.Need-mul-at-most-2
 mul-at-most-2 c =
     let at-durations-summed = c .before in
@@ -49,12 +37,6 @@ mul-at-most-2 c =
       durations-read-low (a .e) (a .s .next),
     )
 
-at-most-requires-2 : tie.Need-at-most-requires-2
-at-most-requires-2 c κs = search needs
-
-both-requires : tie.Need-both-requires
-both-requires c κs = search needs
-
 returns-3 : tie.Need-returns-3
 returns-3 c =
     let bound2 = c .before in
@@ -64,7 +46,7 @@ returns-3 c =
     let a = at-sizes-summed .before .before .before .before .before .args in
     let sizes = bound1 .at-most .ensures ∙ ap (λ (m : ℕ). within (atMost (a .s .sizes) (typeBit * m) ∷ [])) (at-sizes-summed .sizes-summed .ensures) in
     let durations = bound2 .at-most2 .ensures ∙ ap (λ (m : ℕ). within (atMost (a .s .durations) (wordLimit * m) ∷ [])) (at-durations-summed .durations-summed .ensures) in
-    joined _ _ sizes durations (c .both .ensures)
+    joined _ _ (c .both .ensures) sizes durations
     ∙ first-holds (a .s .count) mostEntries _ (omega arith)
     ∙ first-holds (suc (a .s .next)) (a .s .count)
     _ (omega arith)
@@ -73,13 +55,6 @@ pub sums-fit-spec : {M : Type 1} → statement M
 sums-fit-spec =
     tie.close
     (tie.spec
-    returns
-    returns-2
-    sizes-summed-requires
-    durations-summed-requires
-    mul-at-most
-    at-most-requires
-    mul-at-most-2
-    at-most-requires-2
-    both-requires
+    (λ c. first-fails (suc (c .before .before .args .s .next)) (c .before .before .args .s .count) _ (omega arith))
+    returns-2 (search needs) (search needs) mul-at-most (search needs) mul-at-most-2 (search needs) (search needs)
     returns-3)
