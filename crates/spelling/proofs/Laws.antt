@@ -149,8 +149,8 @@ spelled-inside (state.Ended n leaves top) piece i work r h f = r
 spelled-inside (state.Refused n leaves x) piece i work r h f = r
 spelled-inside (state.Accepted n leaves top) piece i work r h f = r
 
--- A reading whose number is told as `x`, of whose bytes `k` are taken, as the code finds them.
-module _ (q : State) (n leaves now last : ℕ) (s : Stage) (piece : List ℕ) (i : ℕ) (work : List ℕ) (same : q ≡ state.Reading n leaves now last s) (r : InRange q) where
+-- A reading in its ranges; and of its number, told as `x`, the `k` bytes that are taken, as the code finds them.
+module _ {q : State} {n leaves now last : ℕ} {s : Stage} (same : q ≡ state.Reading n leaves now last s) (r : InRange q) where
   inside : InRange (state.Reading n leaves now last s)
   inside = subst InRange same r
 
@@ -162,7 +162,7 @@ module _ (q : State) (n leaves now last : ℕ) (s : Stage) (piece : List ℕ) (i
   unfolding bounds
   count-inside = inside .0
 
-  module _ (x : AtHand) (k : ℕ) (ex : x ≡ told (stageNumber s)) (ek : k ≡ together (x .more) (length piece - i - 1) n) where
+  module _ (piece : List ℕ) (i : ℕ) (work : List ℕ) {x : AtHand} {k : ℕ} (ex : x ≡ told (stageNumber s)) (ek : k ≡ together (x .more) (length piece - i - 1) n) where
     as-defined : k ≡ togetherNow s n piece i
     as-defined = rw (ek, ex) refl
 

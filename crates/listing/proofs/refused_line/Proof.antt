@@ -1,4 +1,4 @@
--- `listing::refused_line` meets its contract.
+-- `listing::refused_line` meets its contract, by those of `starting` and `with_numbers`, and by the law `line-length`.
 use native.Mathlib.Omega.{arith}
 use Rattle.listing.specs.Text.{refusedWord}
 use Rattle.listing.proofs.Laws.{line-length}
@@ -6,11 +6,10 @@ use borrow.Author.Needs.{needs}
 use Rattle.listing.proofs.refused_line.Statement.{statement}
 use Rattle.listing.proofs.refused_line.Tie as tie
 
-with-numbers-requires : tie.Need-with-numbers-requires
-with-numbers-requires c κs = omega (arith, line-length refusedWord (c .before .starting .ensures))
-
-returns : tie.Need-returns
-returns c = c .with-numbers .ensures .holds refusedWord (c .before .before .starting .ensures)
-
 pub refused-line-spec : {M : Type 1} → statement M
-refused-line-spec = tie.close (tie.spec (search needs) (search needs) (search needs) with-numbers-requires returns)
+refused-line-spec =
+    tie.close
+    (tie.spec
+    (search needs) (search needs) (search needs)
+    (λ c κs. omega (arith, line-length refusedWord (c .before .starting .ensures)))
+    (λ c. c .with-numbers .ensures .holds refusedWord (c .before .before .starting .ensures)))

@@ -7,6 +7,7 @@ use lib.ListN.{length, take, length-take}
 use lib.Seq.{take-all}
 use Rattle.listing.specs.Text.{spaced, Adds}
 use Rattle.listing.proofs.Laws.{adds-none, adds-both, adds-as, spaced-none, spaced-length, spaced-next}
+use borrow.Author.Needs.{needs}
 use Rattle.listing.proofs.with_numbers.Statement.{statement}
 use Rattle.listing.proofs.with_numbers.Tie as tie
 
@@ -16,26 +17,11 @@ Inv-loop numbers r₀ i₀ r i = (i ≤ length numbers) × Adds r₀ (spaced (ta
 abbrev μ-loop : tie.MeasureT-loop
 μ-loop numbers r₀ i₀ r i = length numbers - i
 
-loop-holds : tie.Need-loop-holds Inv-loop μ-loop
-loop-holds c = (omega arith, adds-as (sym spaced-none) (adds-none (c .before .args .line)))
-
-mul-with-next : tie.Need-mul-with-next Inv-loop μ-loop
-mul-with-next c = omega arith
-
-shared-slice-read-with-next : tie.Need-shared-slice-read-with-next Inv-loop μ-loop
-shared-slice-read-with-next c = omega arith
-
 with-next-requires : tie.Need-with-next-requires Inv-loop μ-loop
 with-next-requires c κs =
     let numbers : List ℕ = c .before .before .before .before .args .numbers .now in
     let i : ℕ = c .before .before .loop .i in
     omega (arith, spaced-length (take i numbers), length-take i numbers)
-
-add-i : tie.Need-add-i Inv-loop μ-loop
-add-i c = omega arith
-
-loop-less : tie.Need-loop-less Inv-loop μ-loop
-loop-less c = omega arith
 
 loop-again : tie.Need-loop-again Inv-loop μ-loop
 loop-again c = (
@@ -45,20 +31,11 @@ loop-again c = (
       (adds-both (c .before .before .before .loop .inv .1) (c .with-next .ensures)),
 )
 
-returns : tie.Need-returns Inv-loop μ-loop
-returns c = adds-as (ap spaced (take-all (c .before .loop .i) (c .before .before .before .args .numbers .now) (omega arith))) (c .before .loop .inv .1)
-
 pub with-numbers-spec : {M : Type 1} → statement M
 with-numbers-spec =
     tie.close
     (tie.spec
-    Inv-loop
-    μ-loop
-    loop-holds
-    mul-with-next
-    shared-slice-read-with-next
-    with-next-requires
-    add-i
-    loop-less
-    loop-again
-    returns)
+    Inv-loop μ-loop
+    (λ c. (omega arith, adds-as (sym spaced-none) (adds-none (c .before .args .line))))
+    (λ c. search needs) (λ c. search needs) with-next-requires (λ c. search needs) (λ c. search needs) loop-again
+    (λ c. adds-as (ap spaced (take-all (c .before .loop .i) (c .before .before .before .args .numbers .now) (omega arith))) (c .before .loop .inv .1)))

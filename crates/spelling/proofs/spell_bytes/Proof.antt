@@ -1,8 +1,10 @@
+-- `spelling::spell_bytes` meets its contract. The loop's invariant, `Spells`: with the bytes to come, those so far spell what all do; the measure is the bytes to come.
 use Prim.Native.Nat.{_+_, _-_, _≤_}
 use native.Mathlib.Omega.{arith}
 use lib.ListN.{length}
 use Rattle.header.proofs.Steps.{spelled-small}
 use Rattle.spelling.proofs.Loops.{Spells, spells-first, spells-next, spells-last}
+use borrow.Author.Needs.{needs}
 use Rattle.spelling.proofs.spell_bytes.Statement.{statement}
 use Rattle.spelling.proofs.spell_bytes.Tie as tie
 
@@ -12,41 +14,27 @@ Inv-loop acc piece i k r₀ j₀ r j = (i + k ≤ length piece) × Spells piece 
 abbrev μ-loop : tie.MeasureT-loop
 μ-loop acc piece i k r₀ j₀ r j = k - j
 
-loop-holds : tie.Need-loop-holds Inv-loop μ-loop
-loop-holds c = (c .before .pre .0, spells-first (c .before .args .piece .now) (c .before .args .i) (c .before .args .k) (c .before .args .acc) (c .before .pre .1))
-
-add-spelled : tie.Need-add-spelled Inv-loop μ-loop
-add-spelled c = omega (arith, c .before .loop .inv .0, c .loop-test .taken, c .before .before .before .good .1 .0 .0)
-
-shared-slice-read-spelled : tie.Need-shared-slice-read-spelled Inv-loop μ-loop
-shared-slice-read-spelled c = omega (arith, c .before .before .loop .inv .0, c .before .loop-test .taken)
-
-spelled-requires : tie.Need-spelled-requires Inv-loop μ-loop
-spelled-requires c κs = spelled-small 7 _ _ (omega arith) (c .before .before .loop .inv .1 .1)
-
-add-j : tie.Need-add-j Inv-loop μ-loop
-add-j c = omega (arith, c .before .before .before .loop .inv .0, c .before .before .loop-test .taken, c .before .before .before .before .before .good .1 .0 .0)
-
-loop-less : tie.Need-loop-less Inv-loop μ-loop
-loop-less c = omega (arith, c .before .before .loop-test .taken)
-
 loop-again : tie.Need-loop-again Inv-loop μ-loop
-loop-again c = (c .before .before .before .loop .inv .0, spells-next (c .before .before .before .before .before .args .piece .now) (c .before .before .before .before .before .args .i) (c .before .before .before .before .before .args .k) (c .before .before .before .before .before .args .acc) (c .before .before .before .loop .j) (c .before .before .before .loop .r) _ (c .before .before .before .loop .inv .0) (c .before .before .loop-test .taken) (omega (arith, c .before .before .before .before .shared-slice-known .given (c .before .before .before .before .before .args .i + c .before .before .before .loop .j))) (c .spelled .ensures) (c .before .before .before .loop .inv .1))
+loop-again c =
+    let now = c .before .before .before in
+    let a = now .before .before .args in
+    let l = now .loop in
+    let byte = now .before .shared-slice-known .given (a .i + l .j) in
+    let next = spells-next (a .piece .now) (a .i) (a .k) (a .acc) (l .j) (l .r) _ (l .inv .0) (c .before .before .loop-test .taken) (omega (arith, byte)) in
+    (l .inv .0, next (c .spelled .ensures) (l .inv .1))
 
 returns : tie.Need-returns Inv-loop μ-loop
-returns c = spells-last (c .before .before .before .args .piece .now) (c .before .before .before .args .i) (c .before .before .before .args .k) (c .before .before .before .args .acc) (c .before .loop .j) (c .before .loop .r) (c .loop-test .left) (c .before .loop .inv .1)
+returns c =
+    let a = c .before .before .before .args in
+    let l = c .before .loop in
+    spells-last (a .piece .now) (a .i) (a .k) (a .acc) (l .j) (l .r) (c .loop-test .left) (l .inv .1)
 
 pub spell-bytes-spec : {M : Type 1} → statement M
 spell-bytes-spec =
     tie.close
     (tie.spec
-    Inv-loop
-    μ-loop
-    loop-holds
-    add-spelled
-    shared-slice-read-spelled
-    spelled-requires
-    add-j
-    loop-less
-    loop-again
-    returns)
+    Inv-loop μ-loop
+    (λ c. (c .before .pre .0, spells-first (c .before .args .piece .now) (c .before .args .i) (c .before .args .k) (c .before .args .acc) (c .before .pre .1)))
+    (λ c. search needs) (λ c. search needs)
+    (λ c κs. spelled-small 7 _ _ (omega arith) (c .before .before .loop .inv .1 .1))
+    (λ c. search needs) (λ c. search needs) loop-again returns)
