@@ -20,27 +20,6 @@ use Rattle.cases_data.proofs.buffers.same_numbers.Reads as same-numbers-reads
 use Rattle.cases_data.proofs.buffers.fill_levels.Reads as fill-levels-reads
 use Rattle.cases_data.proofs.buffers.fill_numbers.Reads as fill-numbers-reads
 
-reads-alike-requires : tie.Need-reads-alike-requires
-reads-alike-requires c κs = search needs
-
-same-levels-requires : tie.Need-same-levels-requires
-same-levels-requires c κs = search needs
-
-same-numbers-requires : tie.Need-same-numbers-requires
-same-numbers-requires c κs = search needs
-
-fill-levels-requires : tie.Need-fill-levels-requires
-fill-levels-requires c κs = search needs
-
-fill-numbers-requires : tie.Need-fill-numbers-requires
-fill-numbers-requires c κs = search needs
-
-same-length : tie.Need-same-length
-same-length c = search needs
-
-same-length-2 : tie.Need-same-length-2
-same-length-2 c = search needs
-
 -- where the tests of the end and of the work area are joined: what they decide, and what the last test does
 module _
     (c :
@@ -97,12 +76,6 @@ module _
 returns : tie.Need-returns
 returns c = both-taken _ _ _ (two (c .before)) (last (c .before)) (c .if2 .taken) refl
 
-same-length-3 : tie.Need-same-length-3
-same-length-3 c = search needs
-
-same-length-4 : tie.Need-same-length-4
-same-length-4 c = search needs
-
 returns-2 : tie.Need-returns-2
 returns-2 c = both-left _ _ (two (c .before)) (c .if2 .left) (c .if2 .left)
 
@@ -110,14 +83,5 @@ pub cut-alike-spec : {M : Type 1} → statement M
 cut-alike-spec =
     tie.close
     (tie.spec
-    reads-alike-requires
-    same-levels-requires
-    same-numbers-requires
-    fill-levels-requires
-    fill-numbers-requires
-    same-length
-    same-length-2
-    returns
-    same-length-3
-    same-length-4
-    returns-2)
+    (search needs) (search needs) (search needs) (search needs) (search needs) (search needs) (search needs) returns
+    (search needs) (search needs) returns-2)

@@ -18,30 +18,6 @@ use Rattle.cases_data.proofs.text.least.Reads as least-reads
 use Rattle.cases_data.proofs.buffers.same_bytes.Reads as same-bytes-reads
 use Rattle.cases_data.proofs.buffers.same_numbers.Reads as same-numbers-reads
 
-least-requires : tie.Need-least-requires
-least-requires c κs = search needs
-
-slice-aggregate-reads-alike : tie.Need-slice-aggregate-reads-alike
-slice-aggregate-reads-alike c = search needs
-
-slice-aggregate-reads-alike-2 : tie.Need-slice-aggregate-reads-alike-2
-slice-aggregate-reads-alike-2 c = search needs
-
-reads-alike-requires : tie.Need-reads-alike-requires
-reads-alike-requires c κs = search needs
-
-slice-aggregate-same-bytes : tie.Need-slice-aggregate-same-bytes
-slice-aggregate-same-bytes c = search needs
-
-same-bytes-requires : tie.Need-same-bytes-requires
-same-bytes-requires c κs = search needs
-
-slice-aggregate-same-numbers : tie.Need-slice-aggregate-same-numbers
-slice-aggregate-same-numbers c = search needs
-
-same-numbers-requires : tie.Need-same-numbers-requires
-same-numbers-requires c κs = search needs
-
 -- where the tests of the end and of the work area are joined: what they decide
 module _
     (c :
@@ -88,13 +64,5 @@ pub pieces-alike-spec : {M : Type 1} → statement M
 pieces-alike-spec =
     tie.close
     (tie.spec
-    least-requires
-    slice-aggregate-reads-alike
-    slice-aggregate-reads-alike-2
-    reads-alike-requires
-    slice-aggregate-same-bytes
-    same-bytes-requires
-    slice-aggregate-same-numbers
-    same-numbers-requires
-    returns
-    returns-2)
+    (search needs) (search needs) (search needs) (search needs) (search needs) (search needs) (search needs)
+    (search needs) returns returns-2)

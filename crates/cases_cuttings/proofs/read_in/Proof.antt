@@ -25,44 +25,22 @@ Inv-loop segment cut want work₀ table₀ s₀ answered₀ from₀ to₀ counte
 abbrev μ-loop : tie.MeasureT-loop
 μ-loop segment cut want work₀ table₀ s₀ answered₀ from₀ to₀ counter₀ end work table s answered from to counter = end - counter
 
-start-requires : tie.Need-start-requires Inv-loop μ-loop
-start-requires c κs = search needs
-
 loop-holds : tie.Need-loop-holds Inv-loop μ-loop
 loop-holds c =
     let s = c .before .before .before .before .args in
     (refl, refl, omega arith, first-held (s .cut .pieces) _ _ _ _ _, first-answered (s .want) (s .cut .pieces) _ _ _ _ _)
 
-part-requires : tie.Need-part-requires Inv-loop μ-loop
-part-requires c κs = search needs
-
-feed-requires : tie.Need-feed-requires Inv-loop μ-loop
-feed-requires c κs = search needs
-
-answers-at-requires : tie.Need-answers-at-requires Inv-loop μ-loop
-answers-at-requires c κs = search needs
-
-both-requires : tie.Need-both-requires Inv-loop μ-loop
-both-requires c κs = search needs
-
-piece-end-requires : tie.Need-piece-end-requires Inv-loop μ-loop
-piece-end-requires c κs = search needs
-
-add-counter : tie.Need-add-counter Inv-loop μ-loop
-add-counter c = search needs
-
-loop-less : tie.Need-loop-less Inv-loop μ-loop
-loop-less c = search needs
-
 loop-again : tie.Need-loop-again Inv-loop μ-loop
 loop-again c =
-    let s = c .before .before .before .before .before .before .before .before .before .before .before .before .before .before .before .before .before .args in
-    let l = c .before .before .before .before .before .before .before .before .before .before .before .before .loop in
+    let at-feed = c .before .before .before .before .before .before .before in
+    let at-part = at-feed .before .before .before in
+    let test = at-part .before in
+    let l = test .before .loop in
+    let s = test .before .before .before .before .before .before .args in
     let h = held (l .s) (l .work) (l .table) in
-    let piece = c .before .before .before .before .before .before .before .before .before .before .part .ensures in
-    let fed = c .before .before .before .before .before .before .before .feed .ensures .0 ∙ ap (λ (p : List ℕ). feedOf (l .s) p (l .work) (l .table)) piece in
+    let fed = at-feed .feed .ensures .0 ∙ ap (λ (p : List ℕ). feedOf (l .s) p (l .work) (l .table)) (at-part .part .ensures) in
     let on = c .piece-end .ensures in
-    let lt = c .before .before .before .before .before .before .before .before .before .before .before .loop-test .taken in
+    let lt = test .loop-test .taken in
     let told = c .before .before .answers-at .ensures in (
       search needs,
       search needs,
@@ -72,18 +50,6 @@ loop-again c =
           (rest-answered (s .segment .now) (s .cut .other) (l .from) (l .to) _ h _ fed on (s .want) (l .answered) _ _ told (c .before .both .ensures) (s .cut .pieces) (l .counter) lt)
           (l .inv .4),
     )
-
-finish-requires : tie.Need-finish-requires Inv-loop μ-loop
-finish-requires c κs = search needs
-
-end-of-requires : tie.Need-end-of-requires Inv-loop μ-loop
-end-of-requires c κs = search needs
-
-same-length : tie.Need-same-length Inv-loop μ-loop
-same-length c = search needs
-
-same-length-2 : tie.Need-same-length-2 Inv-loop μ-loop
-same-length-2 c = search needs
 
 returns : tie.Need-returns Inv-loop μ-loop
 returns c =
@@ -113,20 +79,6 @@ pub read-in-spec : {M : Type 1} → statement M
 read-in-spec =
     tie.close
     (tie.spec
-    Inv-loop
-    μ-loop
-    start-requires
-    loop-holds
-    part-requires
-    feed-requires
-    answers-at-requires
-    both-requires
-    piece-end-requires
-    add-counter
-    loop-less
-    loop-again
-    finish-requires
-    end-of-requires
-    same-length
-    same-length-2
+    Inv-loop μ-loop (search needs) loop-holds (search needs) (search needs) (search needs) (search needs) (search needs)
+    (λ c. search needs) (λ c. search needs) loop-again (search needs) (search needs) (search needs) (search needs)
     returns)

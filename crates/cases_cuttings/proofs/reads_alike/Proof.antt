@@ -8,21 +8,6 @@ use borrow.Author.Needs.{needs}
 use Rattle.cases_cuttings.proofs.reads_alike.Statement.{statement}
 use Rattle.cases_cuttings.proofs.reads_alike.Tie as tie
 
-read-in-requires : tie.Need-read-in-requires
-read-in-requires c κs = search needs
-
-same-end-requires : tie.Need-same-end-requires
-same-end-requires c κs = search needs
-
-both-requires : tie.Need-both-requires
-both-requires c κs = search needs
-
-same-length : tie.Need-same-length
-same-length c = search needs
-
-same-length-2 : tie.Need-same-length-2
-same-length-2 c = search needs
-
 returns : tie.Need-returns
 returns c =
     let s = c .before .before .before .before .before .before .before .before .before .before .before .before .before .args in
@@ -38,9 +23,4 @@ pub reads-alike-spec : {M : Type 1} → statement M
 reads-alike-spec =
     tie.close
     (tie.spec
-    read-in-requires
-    same-end-requires
-    both-requires
-    same-length
-    same-length-2
-    returns)
+    (search needs) (search needs) (search needs) (search needs) (search needs) returns)

@@ -1,3 +1,4 @@
+-- `cases_data::buffers::fill_numbers` is safe and ends. The loop's invariant: the table stays as long; the measure is the numbers left.
 use Prim.Native.Nat.{_-_}
 use borrow.Author.Needs.{needs}
 use lib.ListN.{length}
@@ -5,55 +6,11 @@ use mathlib.Core.Path.{_≡_}
 use Rattle.cases_data.proofs.buffers.fill_numbers.Statement.{statement}
 use Rattle.cases_data.proofs.buffers.fill_numbers.Tie as tie
 
-abbrev Inv-loop : tie.InvT-loop
-Inv-loop table₀ n i₀ table i = length table ≡ length table₀
-
-abbrev μ-loop : tie.MeasureT-loop
-μ-loop table₀ n i₀ table i = length table₀ - i
-
-loop-holds : tie.Need-loop-holds Inv-loop μ-loop
-loop-holds c = search needs
-
-mul-table : tie.Need-mul-table Inv-loop μ-loop
-mul-table c = search needs
-
-slice-write-table : tie.Need-slice-write-table Inv-loop μ-loop
-slice-write-table c = search needs
-
-add-i : tie.Need-add-i Inv-loop μ-loop
-add-i c = search needs
-
-loop-less : tie.Need-loop-less Inv-loop μ-loop
-loop-less c = search needs
-
-loop-again : tie.Need-loop-again Inv-loop μ-loop
-loop-again c = search needs
-
-same-length : tie.Need-same-length Inv-loop μ-loop
-same-length c = search needs
-
-returns : tie.Need-returns Inv-loop μ-loop
-returns c = search needs
-
-same-length-2 : tie.Need-same-length-2 Inv-loop μ-loop
-same-length-2 c = search needs
-
-returns-2 : tie.Need-returns-2 Inv-loop μ-loop
-returns-2 c = search needs
-
 pub fill-numbers-spec : {M : Type 1} → statement M
 fill-numbers-spec =
     tie.close
     (tie.spec
-    Inv-loop
-    μ-loop
-    loop-holds
-    mul-table
-    slice-write-table
-    add-i
-    loop-less
-    loop-again
-    same-length
-    returns
-    same-length-2
-    returns-2)
+    (λ table₀ n i₀ table i. length table ≡ length table₀)
+    (λ table₀ n i₀ table i. length table₀ - i)
+    (λ c. search needs) (λ c. search needs) (λ c. search needs) (λ c. search needs) (λ c. search needs)
+    (λ c. search needs) (search needs) (λ c. search needs) (search needs) (λ c. search needs))

@@ -4,15 +4,6 @@ use borrow.Author.Needs.{needs}
 use Rattle.cases_data.proofs.buffers.same_level.Statement.{statement}
 use Rattle.cases_data.proofs.buffers.same_level.Tie as tie
 
-level-part-requires : tie.Need-level-part-requires
-level-part-requires c κs = search needs
-
-level-part-requires-2 : tie.Need-level-part-requires-2
-level-part-requires-2 c κs = search needs
-
-same-bytes-requires : tie.Need-same-bytes-requires
-same-bytes-requires c κs = search needs
-
 returns : tie.Need-returns
 returns c =
     let v = c .before .before .level-part .ensures in
@@ -21,5 +12,4 @@ returns c =
     (λ t. sym v ∙ decides .0 t ∙ w, λ e. decides .1 (v ∙ e ∙ sym w))
 
 pub same-level-spec : {M : Type 1} → statement M
-same-level-spec =
-    tie.close (tie.spec level-part-requires level-part-requires-2 same-bytes-requires returns)
+same-level-spec = tie.close (tie.spec (search needs) (search needs) (search needs) returns)

@@ -12,18 +12,6 @@ use Rattle.cases_data.proofs.buffers.same_levels.Reads as reads
 use Rattle.cases_data.proofs.buffers.same_levels.Lts as lts
 use Rattle.cases_data.proofs.buffers.same_level.Reads as same-level-reads
 
-same-level-requires : tie.Need-same-level-requires
-same-level-requires c κs = search needs
-
-same-level-requires-2 : tie.Need-same-level-requires-2
-same-level-requires-2 c κs = search needs
-
-same-level-requires-3 : tie.Need-same-level-requires-3
-same-level-requires-3 c κs = search needs
-
-same-level-requires-4 : tie.Need-same-level-requires-4
-same-level-requires-4 c κs = search needs
-
 -- where three tests are joined: what they decide
 module _ (c : lts.Joined2 (same-level-reads.Asked, same-level-reads.Learnt) reads.Pre reads.Post) where
   abbrev Same : ℕ → Type 0
@@ -55,12 +43,4 @@ unfolding SameLevels
 returns-2 c = on-each-level (Same (c .before)) _ (both-left _ _ (three (c .before)) (c .if3 .left) (c .if3 .left))
 
 pub same-levels-spec : {M : Type 1} → statement M
-same-levels-spec =
-    tie.close
-    (tie.spec
-    same-level-requires
-    same-level-requires-2
-    same-level-requires-3
-    same-level-requires-4
-    returns
-    returns-2)
+same-levels-spec = tie.close (tie.spec (search needs) (search needs) (search needs) (search needs) returns returns-2)

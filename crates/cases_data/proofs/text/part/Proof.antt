@@ -7,18 +7,9 @@ use borrow.Author.Needs.{needs}
 use Rattle.cases_data.proofs.text.part.Statement.{statement}
 use Rattle.cases_data.proofs.text.part.Tie as tie
 
-part-result-start : tie.Need-part-result-start
-part-result-start c = search needs
-
-part-result-end : tie.Need-part-result-end
-part-result-end c = search needs
-
 returns : tie.Need-returns
 unfolding bytesFrom pick
 returns c = simp (le-leb _ _ (c .before .before .if1 .taken), le-leb _ _ (c .before .if2 .taken))
-
-slice-aggregate-result : tie.Need-slice-aggregate-result
-slice-aggregate-result c = search needs
 
 returns-2 : tie.Need-returns-2
 unfolding bytesFrom pick
@@ -29,5 +20,4 @@ returns-2 c =
     (c .before .if1 .came)
 
 pub part-spec : {M : Type 1} → statement M
-part-spec =
-    tie.close (tie.spec part-result-start part-result-end returns slice-aggregate-result returns-2)
+part-spec = tie.close (tie.spec (λ c. search needs) (λ c. search needs) returns (search needs) returns-2)

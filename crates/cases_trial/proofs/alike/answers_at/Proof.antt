@@ -7,21 +7,12 @@ use borrow.Author.Needs.{needs}
 use Rattle.cases_trial.proofs.alike.answers_at.Statement.{statement}
 use Rattle.cases_trial.proofs.alike.answers_at.Tie as tie
 
-over-by-requires : tie.Need-over-by-requires
-over-by-requires c κs = search needs
-
-fed-refused-requires : tie.Need-fed-refused-requires
-fed-refused-requires c κs = search needs
-
 returns : tie.Need-returns
 unfolding answerAt pick
 returns c =
     let s = c .before .before .before .before .args in
     let h : overBy (s .k) (s .end) ≡ true = sym (c .before .before .before .over-by .ensures) ∙ c .before .before .if1 .taken in
     rw h (c .fed-refused .ensures)
-
-fed-read-requires : tie.Need-fed-read-requires
-fed-read-requires c κs = search needs
 
 returns-2 : tie.Need-returns-2
 unfolding answerAt pick
@@ -31,5 +22,4 @@ returns-2 c =
     rw h (c .fed-read .ensures)
 
 pub answers-at-spec : {M : Type 1} → statement M
-answers-at-spec =
-    tie.close (tie.spec over-by-requires fed-refused-requires returns fed-read-requires returns-2)
+answers-at-spec = tie.close (tie.spec (search needs) (search needs) returns (search needs) returns-2)

@@ -6,15 +6,6 @@ use borrow.Author.Needs.{needs}
 use Rattle.cases_trial.proofs.alike.declined.Statement.{statement}
 use Rattle.cases_trial.proofs.alike.declined.Tie as tie
 
-enum-told : tie.Need-enum-told
-enum-told c = search needs
-
-enum-known-answer : tie.Need-enum-known-answer
-enum-known-answer c = search needs
-
-same-refusal-requires : tie.Need-same-refusal-requires
-same-refusal-requires c κs = search needs
-
 returns : tie.Need-returns
 returns c =
     let s = c .before .before .args in
@@ -26,5 +17,4 @@ returns-2 c =
     Iff·trans (c .same-refusal .ensures) (declined-alike (s .answer) _ (s .refusal) (c .before .before .answer .given .1))
 
 pub declined-spec : {M : Type 1} → statement M
-declined-spec =
-    tie.close (tie.spec enum-told enum-known-answer same-refusal-requires returns returns-2)
+declined-spec = tie.close (tie.spec (search needs) (search needs) (search needs) returns returns-2)

@@ -6,12 +6,6 @@ use borrow.Author.Needs.{needs}
 use Rattle.cases_trial.proofs.alike.fed_read.Statement.{statement}
 use Rattle.cases_trial.proofs.alike.fed_read.Tie as tie
 
-enum-known-answer : tie.Need-enum-known-answer
-enum-known-answer c = search needs
-
-enum-told : tie.Need-enum-told
-enum-told c = search needs
-
 returns : tie.Need-returns
 returns c =
     let s = c .before .before .before .args in
@@ -24,4 +18,4 @@ returns-2 c =
     never (λ e. read-or-refused (s .answer) (s .k) _ e (c .enum-told .given .1))
 
 pub fed-read-spec : {M : Type 1} → statement M
-fed-read-spec = tie.close (tie.spec enum-known-answer enum-told returns returns-2)
+fed-read-spec = tie.close (tie.spec (search needs) (search needs) returns returns-2)

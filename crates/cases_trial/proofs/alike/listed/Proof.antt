@@ -6,12 +6,6 @@ use borrow.Author.Needs.{needs}
 use Rattle.cases_trial.proofs.alike.listed.Statement.{statement}
 use Rattle.cases_trial.proofs.alike.listed.Tie as tie
 
-enum-known-answer : tie.Need-enum-known-answer
-enum-known-answer c = search needs
-
-enum-told : tie.Need-enum-told
-enum-told c = search needs
-
 returns : tie.Need-returns
 returns c =
     let s = c .before .before .before .args in
@@ -24,4 +18,4 @@ returns-2 c =
     never (λ e. listed-or-refused (s .answer) (s .leaves) _ e (c .enum-told .given .1))
 
 pub listed-spec : {M : Type 1} → statement M
-listed-spec = tie.close (tie.spec enum-known-answer enum-told returns returns-2)
+listed-spec = tie.close (tie.spec (search needs) (search needs) returns returns-2)

@@ -6,9 +6,6 @@ use borrow.Author.Needs.{needs}
 use Rattle.cases_trial.proofs.alike.over_by.Statement.{statement}
 use Rattle.cases_trial.proofs.alike.over_by.Tie as tie
 
-refused-after-requires : tie.Need-refused-after-requires
-refused-after-requires c κs = search needs
-
 returns : tie.Need-returns
 unfolding overBy
 returns c =
@@ -24,4 +21,4 @@ returns-2 c =
     rw (e, h)
 
 pub over-by-spec : {M : Type 1} → statement M
-over-by-spec = tie.close (tie.spec refused-after-requires returns returns-2)
+over-by-spec = tie.close (tie.spec (search needs) returns returns-2)

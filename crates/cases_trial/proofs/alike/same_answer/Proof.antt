@@ -5,18 +5,6 @@ use borrow.Author.Needs.{needs}
 use Rattle.cases_trial.proofs.alike.same_answer.Statement.{statement}
 use Rattle.cases_trial.proofs.alike.same_answer.Tie as tie
 
-enum-known-a : tie.Need-enum-known-a
-enum-known-a c = search needs
-
-listed-requires : tie.Need-listed-requires
-listed-requires c κs = search needs
-
-enum-known-a-2 : tie.Need-enum-known-a-2
-enum-known-a-2 c = search needs
-
-declined-requires : tie.Need-declined-requires
-declined-requires c κs = search needs
-
 returns : tie.Need-returns
 returns c =
     let s = c .before .before .before .before .args in
@@ -28,6 +16,4 @@ returns-2 c =
     Iff·trans (c .declined .ensures) (known (s .a) (s .b) _ (c .before .before .a2 .given .1))
 
 pub same-answer-spec : {M : Type 1} → statement M
-same-answer-spec =
-    tie.close
-    (tie.spec enum-known-a listed-requires enum-known-a-2 declined-requires returns returns-2)
+same-answer-spec = tie.close (tie.spec (search needs) (search needs) (search needs) (search needs) returns returns-2)

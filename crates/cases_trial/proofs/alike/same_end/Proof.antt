@@ -7,12 +7,6 @@ use borrow.Author.Needs.{needs}
 use Rattle.cases_trial.proofs.alike.same_end.Statement.{statement}
 use Rattle.cases_trial.proofs.alike.same_end.Tie as tie
 
-same-answer-requires : tie.Need-same-answer-requires
-same-answer-requires c κs = search needs
-
-same-left-requires : tie.Need-same-left-requires
-same-left-requires c κs = search needs
-
 returns : tie.Need-returns
 returns c =
     let s = c .before .before .before .before .before .args in
@@ -24,4 +18,4 @@ returns-2 c =
     Iff·trans (both-left _ _ (c .before .same-answer .ensures) (c .if1 .left) (c .if1 .left)) (ends (s .a) (s .b))
 
 pub same-end-spec : {M : Type 1} → statement M
-same-end-spec = tie.close (tie.spec same-answer-requires same-left-requires returns returns-2)
+same-end-spec = tie.close (tie.spec (search needs) (search needs) returns returns-2)

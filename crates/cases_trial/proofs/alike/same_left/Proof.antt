@@ -14,12 +14,6 @@ use Rattle.cases_trial.proofs.alike.same_left.Lts as lts
 use Rattle.cases_trial.proofs.alike.same_refusal.Reads as same-refusal-reads
 use Rattle.cases_trial.proofs.alike.same_top.Reads as same-top-reads
 
-same-refusal-requires : tie.Need-same-refusal-requires
-same-refusal-requires c κs = search needs
-
-same-top-requires : tie.Need-same-top-requires
-same-top-requires c κs = search needs
-
 -- where four tests are joined: what they decide
 module _
     (c : lts.Joined3 (same-refusal-reads.Asked, same-refusal-reads.Learnt, same-top-reads.Asked, same-top-reads.Learnt) reads.Pre reads.Post) where
@@ -62,4 +56,4 @@ returns-2 c =
     Iff·trans (both-left _ _ (four at) (c .if4 .left) (c .if4 .left)) (lefts (a at) (b at))
 
 pub same-left-spec : {M : Type 1} → statement M
-same-left-spec = tie.close (tie.spec same-refusal-requires same-top-requires returns returns-2)
+same-left-spec = tie.close (tie.spec (search needs) (search needs) returns returns-2)

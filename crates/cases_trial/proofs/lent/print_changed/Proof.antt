@@ -1,46 +1,15 @@
+-- `cases_trial::lent::print_changed` is safe and ends. The loop keeps nothing; the measure is the bytes left.
 use Prim.Native.Nat.{_-_}
 use borrow.Author.Needs.{needs}
 use lib.ListN.{length}
 use Rattle.cases_trial.proofs.lent.print_changed.Statement.{statement}
 use Rattle.cases_trial.proofs.lent.print_changed.Tie as tie
 
-abbrev Inv-loop : tie.InvT-loop
-Inv-loop work within₀ i₀ within i = Unit {0}
-
-abbrev μ-loop : tie.MeasureT-loop
-μ-loop work within₀ i₀ within i = length work - i
-
-loop-holds : tie.Need-loop-holds Inv-loop μ-loop
-loop-holds c = search needs
-
-shared-slice-read-print-byte : tie.Need-shared-slice-read-print-byte Inv-loop μ-loop
-shared-slice-read-print-byte c = search needs
-
-print-byte-requires : tie.Need-print-byte-requires Inv-loop μ-loop
-print-byte-requires c κs = search needs
-
-add-i : tie.Need-add-i Inv-loop μ-loop
-add-i c = search needs
-
-loop-less : tie.Need-loop-less Inv-loop μ-loop
-loop-less c = search needs
-
-loop-again : tie.Need-loop-again Inv-loop μ-loop
-loop-again c = search needs
-
-returns : tie.Need-returns Inv-loop μ-loop
-returns c = search needs
-
 pub print-changed-spec : {M : Type 1} → statement M
 print-changed-spec =
     tie.close
     (tie.spec
-    Inv-loop
-    μ-loop
-    loop-holds
-    shared-slice-read-print-byte
-    print-byte-requires
-    add-i
-    loop-less
-    loop-again
-    returns)
+    (λ work within₀ i₀ within i. Unit {0})
+    (λ work within₀ i₀ within i. length work - i)
+    (λ c. search needs) (λ c. search needs) (search needs) (λ c. search needs) (λ c. search needs)
+    (λ c. search needs) (λ c. search needs))
