@@ -10,17 +10,11 @@ use Rattle.jump.proofs.pass.Reads as pass-stated
 
 -- of two numbers: one lesser
 pub least-once : OneOutcome 0 least-kinds.ps least-kinds.r least-stated.Pre least-stated.Post
-least-once = record {
-  asks-nothing = λ κs given. tt;
-  outcomes-coincide = λ κs given r r' left left' p q. (p ∙ sym q, refl);
-}
+least-once = record { asks-nothing = λ κs given. tt; outcomes-coincide = λ κs given r r' left left' p q. (p ∙ sym q, refl) }
 
 -- of one state and count of bytes at hand: one count of bytes that pass at once
 pub passing-now-once : OneOutcome 0 passing-now-kinds.ps passing-now-kinds.r passing-now-stated.Pre passing-now-stated.Post
-passing-now-once = record {
-  asks-nothing = λ κs given. tt;
-  outcomes-coincide = λ κs given r r' left left' p q. (p ∙ sym q, refl);
-}
+passing-now-once = record { asks-nothing = λ κs given. tt; outcomes-coincide = λ κs given r r' left left' p q. (p ∙ sym q, refl) }
 
 -- of one state and count of bytes that pass: one state
 pub pass-once : Coincide 0 pass-kinds.ps pass-kinds.r pass-stated.Post

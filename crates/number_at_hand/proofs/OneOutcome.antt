@@ -12,7 +12,4 @@ stage-number-once κs given r r' left left' p q = (p ∙ sym q, refl)
 
 -- of one stage and what is read of its number: one stage
 pub stage-again-once : OneOutcome 0 again-kinds.ps again-kinds.r again-stated.Pre again-stated.Post
-stage-again-once = record {
-  asks-nothing = λ κs given. tt;
-  outcomes-coincide = λ κs given r r' left left' p q. (p ∙ sym q, refl);
-}
+stage-again-once = record { asks-nothing = λ κs given. tt; outcomes-coincide = λ κs given r r' left left' p q. (p ∙ sym q, refl) }

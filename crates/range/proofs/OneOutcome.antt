@@ -6,7 +6,4 @@ use Rattle.range.proofs.in_range.Reads as stated
 
 -- of one state: one answer
 pub in-range-once : OneOutcome 0 kinds.ps kinds.r stated.Pre stated.Post
-in-range-once = record {
-  asks-nothing = λ κs given. tt;
-  outcomes-coincide = λ κs given r r' left left' p q. (p ∙ sym q, refl);
-}
+in-range-once = record { asks-nothing = λ κs given. tt; outcomes-coincide = λ κs given r r' left left' p q. (p ∙ sym q, refl) }

@@ -6,7 +6,4 @@ use Rattle.start.proofs.start.Reads as start-stated
 
 -- of one brand: one state
 pub start-once : OneOutcome 0 start-kinds.ps start-kinds.r start-stated.Pre start-stated.Post
-start-once = record {
-  asks-nothing = λ κs given. tt;
-  outcomes-coincide = λ κs given r r' left left' p q. (p ∙ sym q, refl);
-}
+start-once = record { asks-nothing = λ κs given. tt; outcomes-coincide = λ κs given r r' left left' p q. (p ∙ sym q, refl) }
