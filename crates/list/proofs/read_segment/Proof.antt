@@ -11,72 +11,20 @@ Inv-loop part₀ work₀ table₀ r₀ turns₀ part work table r turns = (lengt
 abbrev μ-loop : tie.MeasureT-loop
 μ-loop part₀ work₀ table₀ r₀ turns₀ part work table r turns = turns
 
-start-requires : tie.Need-start-requires Inv-loop μ-loop
-start-requires c κs = tt
-
-loop-holds : tie.Need-loop-holds Inv-loop μ-loop
-loop-holds c = (refl, refl, refl)
-
-read-part-requires : tie.Need-read-part-requires Inv-loop μ-loop
-read-part-requires c κs = tt
-
-sub-turns : tie.Need-sub-turns Inv-loop μ-loop
-sub-turns c = omega (arith, c .before .before .before .before .before .before .before .before .before .before .before .loop-test .taken)
-
-loop-less : tie.Need-loop-less Inv-loop μ-loop
-loop-less c = omega (arith, c .before .before .before .before .before .before .before .before .before .before .before .loop-test .taken)
-
 loop-again : tie.Need-loop-again Inv-loop μ-loop
-loop-again c = (
-  c .before .before .before .before .before .before .read-part .kept .1 .0
-      ∙ c .before .before .before .before .before .before .before .before .before .before .before .before .loop .inv .0,
-  c .before .before .before .before .before .before .read-part .kept .1 .1 .0
-      ∙ c .before .before .before .before .before .before .before .before .before .before .before .before .loop .inv .1,
-  c .before .before .before .before .before .before .read-part .kept .1 .1 .1 .0
-      ∙ c .before .before .before .before .before .before .before .before .before .before .before .before .loop .inv .2,
-)
-
-same-length : tie.Need-same-length Inv-loop μ-loop
-same-length c = c .before .before .loop .inv .0
-
-same-length-2 : tie.Need-same-length-2 Inv-loop μ-loop
-same-length-2 c = c .before .before .loop .inv .1
-
-same-length-3 : tie.Need-same-length-3 Inv-loop μ-loop
-same-length-3 c = c .before .before .loop .inv .2
-
-returns : tie.Need-returns Inv-loop μ-loop
-returns c = tt
-
-same-length-4 : tie.Need-same-length-4 Inv-loop μ-loop
-same-length-4 c = c .before .loop .inv .0
-
-same-length-5 : tie.Need-same-length-5 Inv-loop μ-loop
-same-length-5 c = c .before .loop .inv .1
-
-same-length-6 : tie.Need-same-length-6 Inv-loop μ-loop
-same-length-6 c = c .before .loop .inv .2
-
-returns-2 : tie.Need-returns-2 Inv-loop μ-loop
-returns-2 c = tt
+loop-again c =
+    let read = c .before .before .before .before .before .before in
+    let kept = read .read-part .kept .1 in
+    let inv = read .before .before .before .before .before .before .loop .inv in
+    (kept .0 ∙ inv .0, kept .1 .0 ∙ inv .1, kept .1 .1 .0 ∙ inv .2)
 
 pub read-segment-spec : {M : Type 1} → statement M
 read-segment-spec =
     tie.close
     (tie.spec
-    Inv-loop
-    μ-loop
-    start-requires
-    loop-holds
-    read-part-requires
-    sub-turns
-    loop-less
-    loop-again
-    same-length
-    same-length-2
-    same-length-3
-    returns
-    same-length-4
-    same-length-5
-    same-length-6
-    returns-2)
+    Inv-loop μ-loop (λ c κs. tt) (λ c. (refl, refl, refl)) (λ c κs. tt)
+    (λ c. omega (arith, c .before .before .before .before .before .before .before .before .before .before .before .loop-test .taken))
+    (λ c. omega (arith, c .before .before .before .before .before .before .before .before .before .before .before .loop-test .taken))
+    loop-again (λ c. c .before .before .loop .inv .0) (λ c. c .before .before .loop .inv .1)
+    (λ c. c .before .before .loop .inv .2) (λ c. tt) (λ c. c .before .loop .inv .0) (λ c. c .before .loop .inv .1)
+    (λ c. c .before .loop .inv .2) (λ c. tt))
