@@ -20,7 +20,7 @@ import sys
 
 ROOT = pathlib.Path(__file__).resolve().parent.parent
 NAMES = re.compile(r"`[^`]+`(, `[^`]+`)*")
-ERROR = re.compile(r"^(.*?):\d+:\d+: error: (?:`([^`]+)`: )?(.*)$")
+ERROR = re.compile(r"^(.*?):(\d+):(\d+): error: (?:`([^`]+)`: )?(.*)$")
 FUNCTION = re.compile(r"^fn (\S+): (.*)$")
 FOLLOWS = re.compile(r"^`[^`]+` (was not admitted|cannot be unfolded because it was not admitted)")
 UNCLOSED = "`search` does not close"
@@ -28,6 +28,8 @@ UNCLOSED = "`search` does not close"
 ANSWER = re.compile(r"(returns|loop\d*-(holds|again))(-\d+)?")
 # What a log says where an operation or a branch is gone or new, or a name, a case or a type of a definition does not stand.
 BROKEN = ("Need-", "is not in scope", "has no field", "that can be named from here", "has no clause")
+# A need that stands in line in the list of answers, and that search does not prove.
+UNFOUND = re.compile(r"`search`: no proof of `tie\.Need-([\w-]+)`")
 
 
 def names(text):
@@ -65,7 +67,7 @@ def wanted(cells):
 
 
 class Log:
-    """What the log of an edit says: errors as (file, declaration), functions by name, and signs of a broken shape."""
+    """What the log of an edit says: errors as (file, declaration, need in line), functions by name, and signs of a broken shape."""
 
     def __init__(self, crate, edit):
         self.errors, self.functions, self.broken = set(), {}, []
@@ -78,14 +80,31 @@ class Log:
                 if function[2].startswith("no proof: ") and UNCLOSED not in function[2] and "; it calls `" not in function[2]:
                     self.broken.append(line[:200])
             if error:
-                self.read(error[1].rpartition(here)[2], error[2], error[3])
+                self.read(error[1].rpartition(here)[2], (int(error[2]), int(error[3])), error[4], error[5])
 
-    def read(self, file, declaration, said):
+    def read(self, file, place, declaration, said):
         if FOLLOWS.match(said):
             return
-        if declaration is None or not file.startswith("proofs/") or any(sign in said for sign in BROKEN):
+        unfound = UNFOUND.match(said)
+        if declaration is None or not file.startswith("proofs/") or not unfound and any(sign in said for sign in BROKEN):
             self.broken.append(f"{file}: {said[:160]}")
-        self.errors.add((file, declaration))
+        in_line = declaration and declaration.endswith("-spec") and file.endswith("/Proof.antt")
+        self.errors.add((file, declaration, (unfound[1] if unfound else self.in_line(file, place, said)) if in_line else None))
+
+    def in_line(self, file, place, said):
+        """What the answer at a place of a list of answers is of. Of a search, its message tells; with a callee's lifetimes, or by
+        arithmetic, it is what a call or an operation asks; else it is what the function returns."""
+        text = (self.folder / file).read_text(encoding="utf-8")
+        at = sum(len(line) + 1 for line in text.split("\n")[: place[0] - 1]) + place[1] - 1
+        depth, begin, answer = 0, 0, ""
+        for i in range(text.rindex(".spec"), len(text)):
+            depth += {"(": 1, ")": -1}.get(text[i], 0)
+            begin = i if text[i] == "(" and depth == 1 else begin
+            if text[i] == ")" and depth == 0 and begin <= at <= i:
+                answer = text[begin:i]
+        if re.match(r"\((λ [^.]*\. )?search\b", answer):
+            return "returns" if "Reads.Post" in said else "asked"
+        return "asked" if re.match(r"\(λ (c κs\.|c\. omega\b)", answer) else "returns"
 
     def function(self, name):
         """Whether a function's own proof is refused. `mod::name` says in which module of the crate it stands."""
@@ -94,7 +113,7 @@ class Log:
             return False
         said = self.functions[found[0]]
         *path, last = found[0].split("::")[1:]
-        own = {self.need(f, d) for f, d in self.errors if f.split("/")[1:-2] == path and last in f.split("/")[-2].split("+")}
+        own = {need or self.need(f, d) for f, d, need in self.errors if f.split("/")[1:-2] == path and last in f.split("/")[-2].split("+")}
         own |= set(re.findall(r"`([^`]+)`", said.partition(UNCLOSED)[2]))
         return said != "proved" and any(need is None or ANSWER.fullmatch(need) for need in own)
 
@@ -104,7 +123,7 @@ class Log:
         return answers and answers[1]
 
     def theorem(self, module, name):
-        return any(f.endswith(f"/{module}.antt") and d == name for f, d in self.errors)
+        return any(f.endswith(f"/{module}.antt") and d == name for f, d, _ in self.errors)
 
     def missing(self, wanted_names):
         """The names that are not refused by themselves."""

@@ -28,7 +28,7 @@ use Rattle.basics.specs.Put.{putAll}
 use Rattle.state.specs.Stages.{stepStage}
 use Rattle.state.specs.Levels.{inmost, entryAt, entryPlace}
 use Rattle.state.specs.Places.{stageByte, storedAt}
-use Rattle.state.specs.Step.{settle, entryShows, overLimit, step, run}
+use Rattle.state.specs.Step.{settle, entryShows, overLimit, step, stepAll}
 use Rattle.state.specs.Numbers.{stageNumber, putIn, Short}
 use Rattle.state.specs.Calls.{Out, out, flowOf, stateOf, workOf, tableOf, answerOf, fed, feedState}
 use Rattle.state.specs.Ranges.{Within, stageBounds, bounds, InRange}
@@ -45,7 +45,7 @@ use Rattle.levels.specs.declared.EntryRead.the-variants as read
 use Rattle.levels.specs.Views.{readOf}
 use Rattle.stage.proofs.Entries.{chosen, altered-told}
 use Rattle.number_at_hand.specs.declared.AtHand.{AtHand}
-use Rattle.number_at_hand.specs.Views.{isStored, nextPlace, told}
+use Rattle.number_at_hand.specs.Views.{isStored, nextPlace, atHandOf}
 use Rattle.byte.specs.Answers.{answered, stepped}
 
 -- a state and its buffers, with what feed answers for them
@@ -64,14 +64,14 @@ module _ (n leaves now last b : ℕ) (s : Stage) (work table : List ℕ) where
   pub reading-one : (q : StageStep) (work' table' : List ℕ) (next : State) → n < limit →
       viewStage leaves work' table' q ≡ stepStage s (flowOf leaves now last work table) n b → next ≡ stepped n leaves q →
       left-with next work' table' ≡ feedState (state.Reading n leaves now last s) (b ∷ []) work table
-  unfolding feedState run step unless
+  unfolding feedState stepAll step unless
   reading-one q work' table' next low e same = ap (λ (z : State). left-with z work' table') same ∙ settled-view q n leaves work' table' ∙ ap (λ r. fed (settle (suc n) r)) e ∙ rw (past-none n low) refl
 
   -- the byte past the limit: rows 3 and 12, and an entry byte is stored
   pub reading-past : (x : Refusal) (work' : List ℕ) (next : State) → x ≡ overLimit s (flowOf leaves now last work table) limit (refusal 3 limit) →
       work' ≡ storedAt work (stageByte s) b → next ≡ state.Refused 268435457 leaves x →
       left-with next work' table ≡ feedState (state.Reading limit leaves now last s) (b ∷ []) work table
-  unfolding feedState run step unless shows lowest answered stateOf workOf tableOf answerOf
+  unfolding feedState stepAll step unless shows lowest answered stateOf workOf tableOf answerOf
   reading-past x work' next e p same = rw (same, e, p) refl
 
   -- a reading whose count is the limit is that reading
@@ -119,7 +119,7 @@ place-fits none more e short = let z : _≡_ {A = ℕ} 0 1 = cc in absurd (omega
 place-fits (some i) more e short = omega (arith, short .0, short .1)
 
 -- the stage whose number is told as `x`, and a byte
-module _ (s : Stage) (x : AtHand) (e : x ≡ told (stageNumber s)) where
+module _ (s : Stage) (x : AtHand) (e : x ≡ atHandOf (stageNumber s)) where
   pub byte-unstored : (b : ℕ) (work : List ℕ) → x .stored ≡ false → work ≡ storedAt work (stageByte s) b
   byte-unstored b work h =
       put-none (stageNumber s .place) (stageNumber s .more) b work (sym (ap (λ (y : AtHand). y .stored) e) ∙ h) ∙ stage-stored work b s
@@ -139,11 +139,11 @@ module _ (s : Stage) (x : AtHand) (e : x ≡ told (stageNumber s)) where
 module _ (n leaves b : ℕ) (top : Top) (work table : List ℕ) where
   -- row 21
   pub ended-one : n < limit → left-with (state.Refused (n + 1) leaves (refusal 21 n)) work table ≡ feedState (state.Ended n leaves top) (b ∷ []) work table
-  unfolding feedState run step lowest answered stateOf workOf tableOf answerOf
+  unfolding feedState stepAll step lowest answered stateOf workOf tableOf answerOf
   ended-one low = rw (past-none n low, add-one n) refl
 
   pub ended-past : n ≡ limit → left-with (state.Refused 268435457 leaves (refusal 3 268435456)) work table ≡ feedState (state.Ended n leaves top) (b ∷ []) work table
-  unfolding feedState run step lowest shows pick answered stateOf workOf tableOf answerOf
+  unfolding feedState stepAll step lowest shows pick answered stateOf workOf tableOf answerOf
   ended-past e = rw e refl
 
 -- what a state's ranges say of a reading

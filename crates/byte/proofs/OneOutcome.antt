@@ -1,6 +1,6 @@
 -- The contract of `state_byte` itself, as the check reads it: two outcomes that it allows coincide.
 use mathlib.Core.Path.{sym, ap, _∙_}
-use Rattle.basics.specs.Outcome.{Coincide, after}
+use Rattle.basics.specs.Outcome.{Coincide, afterCall}
 use Rattle.state.specs.declared.FeedAnswer.{FeedAnswer}
 use Rattle.state.specs.Calls.{Out}
 use Rattle.byte.proofs.state_byte.Kinds as kinds
@@ -11,5 +11,5 @@ pub state-byte-once : Coincide 2 kinds.ps kinds.r stated.Post
 state-byte-once κs given r r' left left' p q =
     let same = p .0 ∙ sym (q .0) in (
       ap (λ (o : Out FeedAnswer). o .state) same,
-      ap (λ (o : Out FeedAnswer). after 2 kinds.ps kinds.r κs given (tt, (tt, (o .work, (o .table, tt))))) same,
+      ap (λ (o : Out FeedAnswer). afterCall 2 kinds.ps kinds.r κs given (tt, (tt, (o .work, (o .table, tt))))) same,
     )

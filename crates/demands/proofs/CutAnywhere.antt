@@ -20,7 +20,7 @@ use Rattle.state.specs.declared.FeedAnswer.the-variants as feeds
 use Rattle.state.specs.declared.FinishAnswer.{FinishAnswer}
 use Rattle.state.specs.declared.FinishAnswer.the-variants as finishes
 use Rattle.table.specs.Table.{room}
-use Rattle.state.specs.Step.{World, reading, ended, refused, run, stage0, flow0}
+use Rattle.state.specs.Step.{World, reading, ended, refused, stepAll, stage0, flow0}
 use Rattle.state.specs.Ranges.{inRange}
 use Rattle.state.specs.Calls.{Out, out, stateOf, workOf, tableOf, answerOf, fed, startOf, feedState, feedOf, finishState, finishAfter, wholeOf}
 use Rattle.state.specs.Parts.{Held, held, heldAfter, feedHeld, finishHeld, feedAll, joined}
@@ -47,7 +47,7 @@ finish-whole : (brand : ℕ) (bytes work table : List ℕ) → AllBytes bytes �
     finishHeld (heldAfter (feedOf (startOf brand) bytes work table)) ≡ wholeOf brand bytes work table
 unfolding feedState stateOf
 finish-whole brand bytes work table all long =
-    let w : World = run (reading 0 (stage0 brand) (flow0 work table)) bytes in
+    let w : World = stepAll (reading 0 (stage0 brand) (flow0 work table)) bytes in
     let read : feedOf (startOf brand) bytes work table ≡ fed w = feed-inside (startOf brand) bytes work table long (start-inside brand) in
     let inside : inRange (stateOf w) ≡ true = in-range (stateOf w) .1 (run-kept (reading 0 (stage0 brand) (flow0 work table)) bytes all (start-in-range brand)) in
     rw read (finish-any w inside)

@@ -10,8 +10,8 @@ use borrow.Author.Tests.{eqb-true, ne-eqb}
 use Rattle.basics.specs.Choose.{pick, andThen}
 use Rattle.basics.proofs.Picks.{pick-no, pick-holds}
 use Rattle.basics.proofs.Options.{then-cong, then-assoc, then-pick}
-use Rattle.segment.specs.Boxes.{boxes, cut, topKinds, without}
-use Rattle.segment.specs.Tree.{gapBoxes}
+use Rattle.segment.specs.Boxes.{boxes, cutBoxes, topKinds, without}
+use Rattle.segment.specs.Tree.{boxesOfGap}
 use Rattle.machine.specs.Run.{Res, okay}
 use Rattle.machine.specs.Heads.{boxEnd}
 use Rattle.machine.specs.Lists.{Next, boxD}
@@ -30,8 +30,8 @@ use Rattle.demands.proofs.ListTree.{list-tree}
 
 -- a gap that is not empty
 gap-some : {X : Type 0} (offset : ℕ) (f : Flow) (n : ℕ) (xs ys : List ℕ) (k : Unit {0} → Flow → ℕ → List ℕ → Option X) → 0 < length xs → length xs ≡ offset →
-    upon (gapD offset f n (xs ++ ys)) k ≡ andThen (gapBoxes xs) (λ bs. k tt f (n + offset) ys)
-unfolding gapD gapBoxes gapNext andThen clean pick
+    upon (gapD offset f n (xs ++ ys)) k ≡ andThen (boxesOfGap xs) (λ bs. k tt f (n + offset) ys)
+unfolding gapD boxesOfGap gapNext andThen clean pick
 gap-some offset f n xs ys k l e =
     ap (λ (r : Res (Unit {0}) Flow Left). upon r k) (pick-no (eqb offset 0) _ _ (ne-eqb offset 0 (λ q. omega arith)))
     ∙ list-tree (stages.gapBoxes (n + offset)) (λ u h g m cs. skipTo tt (boxEnd h) g m cs) gapWalk (λ u. tt) (λ u. []) (n + offset) f (λ u. refl) (λ u. refl) (λ u h. refl)
@@ -42,8 +42,8 @@ gap-some offset f n xs ys k l e =
 
 -- The gap is read to its end where it is whole boxes that are skipped.
 pub gap-tree : {X : Type 0} (offset : ℕ) (f : Flow) (n : ℕ) (xs ys : List ℕ) (k : Unit {0} → Flow → ℕ → List ℕ → Option X) → length xs ≡ offset →
-    upon (gapD offset f n (xs ++ ys)) k ≡ andThen (gapBoxes xs) (λ bs. k tt f (n + offset) ys)
-unfolding gapD gapBoxes upon andThen pick cut without
+    upon (gapD offset f n (xs ++ ys)) k ≡ andThen (boxesOfGap xs) (λ bs. k tt f (n + offset) ys)
+unfolding gapD boxesOfGap upon andThen pick cutBoxes without
 gap-tree offset f n [] ys k e =
     let z : offset ≡ 0 = omega arith in
     let q : n + 0 ≡ n = omega arith in

@@ -27,7 +27,7 @@ use Rattle.state.specs.declared.FinishAnswer.{FinishAnswer}
 use Rattle.state.specs.declared.FinishAnswer.the-variants as finishes
 use Rattle.state.specs.Flow.{Flow, Left, left, workBytes}
 use Rattle.state.specs.Stages.{stepStage}
-use Rattle.state.specs.Step.{World, reading, ended, refused, settle, pastLimit, overLimit, leftOver, pastMaterial, step, run, stage0, flow0}
+use Rattle.state.specs.Step.{World, reading, ended, refused, settle, pastLimit, overLimit, leftOver, pastMaterial, step, stepAll, stage0, flow0}
 use Rattle.state.specs.Ranges.{inRange}
 use Rattle.state.specs.Calls.{Out, out, stateOf, workOf, tableOf, answerOf, fed, startOf, feedState, feedOf, finishState, finishAfter, wholeOf}
 use Rattle.state.proofs.RangeTests.{in-range}
@@ -49,8 +49,8 @@ outcomeOf (ended n top kept) = out (finishes.Listed (kept .leaves)) (state.Accep
 outcomeOf (refused n x kept) = out (finishes.Refused x) (state.Refused n (kept .leaves) x) (kept .work) (kept .table)
 
 -- a refused reading stays as it is
-run-refused : (n : ℕ) (x : Refusal) (kept : Left) (bs : List ℕ) → run (refused n x kept) bs ≡ refused n x kept
-unfolding run step
+run-refused : (n : ℕ) (x : Refusal) (kept : Left) (bs : List ℕ) → stepAll (refused n x kept) bs ≡ refused n x kept
+unfolding stepAll step
 run-refused n x kept [] = refl
 run-refused n x kept (b ∷ bs) = run-refused n x kept bs
 
@@ -80,18 +80,18 @@ abbrev C : ℕ → List ℕ → Sub Stage Top Flow Left → Res Top Flow Left
 C n bs r = cont left bounded n bs r
 
 -- the fold and its finish are the run under the limit
-settled : (bs : List ℕ) → ((n : ℕ) (s : Stage) (f : Flow) → outcomeOf (run (reading n s f) bs) ≡ outcome (runs left bounded s f n bs)) →
-    (n : ℕ) (r : Sub Stage Top Flow Left) → outcomeOf (run (settle n r) bs) ≡ outcome (C n bs r)
-unfolding settle contBy outcome outcomeOf run step
+settled : (bs : List ℕ) → ((n : ℕ) (s : Stage) (f : Flow) → outcomeOf (stepAll (reading n s f) bs) ≡ outcome (runs left bounded s f n bs)) →
+    (n : ℕ) (r : Sub Stage Top Flow Left) → outcomeOf (stepAll (settle n r) bs) ≡ outcome (C n bs r)
+unfolding settle contBy outcome outcomeOf stepAll step
 settled bs h n (go s f) = h n s f
 settled [] h n (done top f) = refl
 settled (b ∷ bs) h n (done top f) = ap outcomeOf (run-refused (suc n) (lowest (pastMaterial n) (pastLimit n)) (left f) bs)
 settled bs h n (bad x kept) = ap outcomeOf (run-refused n x kept bs)
 
-fold-run : (bs : List ℕ) (n : ℕ) (s : Stage) (f : Flow) → outcomeOf (run (reading n s f) bs) ≡ outcome (runs left bounded s f n bs)
-unfolding run runs outcomeOf outcome
+fold-run : (bs : List ℕ) (n : ℕ) (s : Stage) (f : Flow) → outcomeOf (stepAll (reading n s f) bs) ≡ outcome (runs left bounded s f n bs)
+unfolding stepAll runs outcomeOf outcome
 fold-run [] n s f = refl
-fold-run (b ∷ bs) n s f = ap (λ w. outcomeOf (run w bs)) (step-limited s f n b) ∙ settled bs (fold-run bs) (suc n) (bounded s f n b)
+fold-run (b ∷ bs) n s f = ap (λ w. outcomeOf (stepAll w bs)) (step-limited s f n b) ∙ settled bs (fold-run bs) (suc n) (bounded s f n b)
 
 -- finish after a feed, of a reading inside its ranges
 finish-fed : (w : World) → inRange (stateOf w) ≡ true → finishAfter (fed w) (answerOf w) ≡ outcomeOf w
@@ -103,7 +103,7 @@ finish-fed (refused n x kept) e = refl
 -- the feed of all the bytes, from the start
 module _ (brand : ℕ) (bytes work table : List ℕ) where
   abbrev after-all : World
-  after-all = run (reading 0 (stage0 brand) (flow0 work table)) bytes
+  after-all = stepAll (reading 0 (stage0 brand) (flow0 work table)) bytes
 
   feed-start : workBytes ≤ length work → feedOf (startOf brand) bytes work table ≡ fed after-all
   unfolding feedState

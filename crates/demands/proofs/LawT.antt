@@ -17,7 +17,7 @@ use Rattle.segment.specs.Constants.{limit, timeLimit, entryBytes}
 use Rattle.segment.specs.Boxes as tree
 use Rattle.segment.specs.Boxes.{sizes, durations}
 use Rattle.segment.specs.Leaves.{neverFall}
-use Rattle.segment.specs.Tree.{Part, Opened, topIndex, gapBoxes, material, tile, underIndex, timesIn, leavesIn, segmentParts, segment}
+use Rattle.segment.specs.Tree.{Part, Opened, topIndex, boxesOfGap, material, tile, underIndex, timesIn, leavesIn, segmentParts, segment}
 use Rattle.segment.proofs.Stands.{top-stands}
 use Rattle.machine.specs.Faults.{shows, refusal, lowest}
 use Rattle.machine.specs.Run.{Res, okay, fail, cut, either, after}
@@ -198,10 +198,10 @@ module _ (o : Opened) (f0 : Flow) (n : ℕ) (read : tree.sidxIndex (o .box .body
       (λ u g m cs e. absurd (omega (arith, gap-ends (x .offset) flow n rest u g m cs e, gap-consumed (x .offset) flow n rest u g m cs e)))
 
   -- a gap that is all there
-  gap-meets : (A B : List ℕ) (say : Verdict Listing) → length A ≡ x .offset → Meets (under B ending) say → Meets (judge (gapD (x .offset) flow n (A ++ B)) past) (told (gapBoxes A) (λ gap. say))
+  gap-meets : (A B : List ℕ) (say : Verdict Listing) → length A ≡ x .offset → Meets (under B ending) say → Meets (judge (gapD (x .offset) flow n (A ++ B)) past) (told (boxesOfGap A) (λ gap. say))
   unfolding told
   gap-meets A B say la h =
-      judge-told (gapD (x .offset) flow n (A ++ B)) past (gapBoxes A) _ (λ gap. say) (gap-tree (x .offset) flow n A B (λ u g m cs. some (past u g m cs)) la) (λ gap e. h)
+      judge-told (gapD (x .offset) flow n (A ++ B)) past (boxesOfGap A) _ (λ gap. say) (gap-tree (x .offset) flow n A B (λ u g m cs. some (past u g m cs)) la) (λ gap e. h)
 
   module _ (all : ℕ) (ends : all ≡ n + length (o .rest)) (l0 : f0 .leaves ≡ 0) (t0 : f0 .last ≡ 0) where
     abbrev A : List ℕ
@@ -219,16 +219,16 @@ module _ (o : Opened) (f0 : Flow) (n : ℕ) (read : tree.sidxIndex (o .box .body
     unfolding told andThen pick material
     wrong-length ne = rw (ne-eqb (length (o .rest)) (i .offset + sizes (i .entries)) ne)
 
-    right-length : length (o .rest) ≡ i .offset + sizes (i .entries) → told (andThen (material o) tiled) (seated (f0 .table)) ≡ told (gapBoxes A) (λ gap. told (parts B) (said (f0 .table)))
+    right-length : length (o .rest) ≡ i .offset + sizes (i .entries) → told (andThen (material o) tiled) (seated (f0 .table)) ≡ told (boxesOfGap A) (λ gap. told (parts B) (said (f0 .table)))
     unfolding told andThen material
     right-length e =
         let lb : length B ≡ length (o .rest) - x .offset = length-drop (x .offset) (o .rest) in
         let q : all - length B ≡ n + x .offset = omega arith in
         ap (λ (z : Option (List ℕ)). told (andThen z tiled) (seated (f0 .table)))
         (pick-yes (eqb (length (o .rest)) (i .offset + sizes (i .entries))) _ _ (eq-eqb (length (o .rest)) (i .offset + sizes (i .entries)) e))
-        ∙ told-then (andThen (gapBoxes A) (λ gap. some B)) tiled (seated (f0 .table))
-        ∙ told-then (gapBoxes A) (λ gap. some B) (λ ys. told (tiled ys) (seated (f0 .table)))
-        ∙ told-cong (gapBoxes A) (λ gap. told (tiled B) (seated (f0 .table))) (λ gap. told (parts B) (said (f0 .table)))
+        ∙ told-then (andThen (boxesOfGap A) (λ gap. some B)) tiled (seated (f0 .table))
+        ∙ told-then (boxesOfGap A) (λ gap. some B) (λ ys. told (tiled ys) (seated (f0 .table)))
+        ∙ told-cong (boxesOfGap A) (λ gap. told (tiled B) (seated (f0 .table))) (λ gap. told (parts B) (said (f0 .table)))
         (λ gap r. told-then (tile (i .id) (underIndex (i .id) (i .scale) 3) (all - length B) (i .time) (i .entries) B) _ (seated (f0 .table)) ∙ rw q)
 
     rest-meets : Meets (judge (materialD x (withEntries f0 topmost i body) n (o .rest)) final) (told (andThen (material o) tiled) (seated (f0 .table)))
@@ -240,13 +240,13 @@ module _ (o : Opened) (f0 : Flow) (n : ℕ) (read : tree.sidxIndex (o .box .body
         la : x .offset ≤ length (o .rest) → length A ≡ x .offset
         la l = length-take-le (x .offset) (o .rest) l
 
-        read-gap : x .offset ≤ length (o .rest) → (say : Verdict Listing) → Meets (under B ending) say → Meets (judge (gapD (x .offset) flow n (o .rest)) past) (told (gapBoxes A) (λ gap. say))
+        read-gap : x .offset ≤ length (o .rest) → (say : Verdict Listing) → Meets (under B ending) say → Meets (judge (gapD (x .offset) flow n (o .rest)) past) (told (boxesOfGap A) (λ gap. say))
         read-gap l say h =
-            subst (λ (bs : List ℕ). Meets (judge (gapD (x .offset) flow n bs) past) (told (gapBoxes A) (λ gap. say))) (take-append-drop (x .offset) (o .rest)) (gap-meets A B say (la l) h)
+            subst (λ (bs : List ℕ). Meets (judge (gapD (x .offset) flow n bs) past) (told (boxesOfGap A) (λ gap. say))) (take-append-drop (x .offset) (o .rest)) (gap-meets A B say (la l) h)
 
         not-exact : x .offset ≤ length (o .rest) → length (o .rest) ≢ i .offset + sizes (i .entries) → NotFine (under B ending) →
             Meets (judge (gapD (x .offset) flow n (o .rest)) past) (told (andThen (material o) tiled) (seated (f0 .table)))
-        not-exact l ne nf = rw (wrong-length ne) (meets-not _ (told (gapBoxes A) (λ gap. wrong)) (read-gap l wrong nf) (told-not (gapBoxes A) (λ gap. wrong) (λ gap e. tt)))
+        not-exact l ne nf = rw (wrong-length ne) (meets-not _ (told (boxesOfGap A) (λ gap. wrong)) (read-gap l wrong nf) (told-not (boxesOfGap A) (λ gap. wrong) (λ gap e. tt)))
 
         more-bytes : x .offset ≤ length (o .rest) → sizes (i .entries) < length B → NotFine (under B ending)
         more-bytes l lt =

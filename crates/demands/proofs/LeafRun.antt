@@ -10,7 +10,7 @@ use Rattle.basics.proofs.Picks.{pick-both}
 use Rattle.segment.specs.Constants.{moof, traf, tfhd, tfdt}
 use Rattle.machine.specs.Run.{Sub, go, done, bad, lift, Res, okay, after, contBy, run, cont, fieldD, plain}
 use Rattle.machine.specs.Heads.{boxEnd}
-use Rattle.machine.specs.Lists.{Box, inHead, inBody, stepBoxes}
+use Rattle.machine.specs.Lists.{BoxPhase, inHead, inBody, stepBoxes}
 use Rattle.machine.specs.declared.Header.{Header}
 use Rattle.machine.specs.declared.Head.the-variants as at
 use Rattle.machine.proofs.Faults.{unless-both}
@@ -79,7 +79,7 @@ module _ (id : ℕ) (t : Track) where
       (skip-run left (stepTrafBody id t) (boxEnd h) (body.Skip (boxEnd h)) nothing (λ g m b. refl) f n bs))
 
 -- the boxes of a `traf`
-traf-steps : (id : ℕ) (span : Span) (a : TrafSo) (s : Box TrafBody) (f : Flow) (n b : ℕ) → stepTraf id span (wrapTraf a s) f n b ≡ stepBoxes (trafBoxes id span) wrapTraf a s f n b
+traf-steps : (id : ℕ) (span : Span) (a : TrafSo) (s : BoxPhase TrafBody) (f : Flow) (n b : ℕ) → stepTraf id span (wrapTraf a s) f n b ≡ stepBoxes (trafBoxes id span) wrapTraf a s f n b
 unfolding stepTraf
 traf-steps id span a (inHead h) f n b = refl
 traf-steps id span a (inBody s) f n b = refl
@@ -106,7 +106,7 @@ module _ (id : ℕ) where
       (ap (λ (r : Res Seen Flow Left). after r (λ s g m cs. okay (seeing s) g m cs)) (traf-run id (spanOf h) seen f n bs) ∙ in-moof (spanOf h) n bs (beginTrafBoxes id (spanOf h) seen f n))
       (skip-run left (stepMoofBody id) (boxEnd h) (moofs.Skip (boxEnd h)) skipped (λ g m b. refl) f n bs)
 
-  moof-steps : (end : ℕ) (a : Seen) (s : Box MoofBody) (f : Flow) (n b : ℕ) → stepMoof id end (wrapMoof a s) f n b ≡ stepBoxes (moofBoxes id end) wrapMoof a s f n b
+  moof-steps : (end : ℕ) (a : Seen) (s : BoxPhase MoofBody) (f : Flow) (n b : ℕ) → stepMoof id end (wrapMoof a s) f n b ≡ stepBoxes (moofBoxes id end) wrapMoof a s f n b
   unfolding stepMoof
   moof-steps end a (inHead h) f n b = refl
   moof-steps end a (inBody s) f n b = refl
@@ -131,7 +131,7 @@ module _ (id : ℕ) where
       (ap (λ (r : Res Seen Flow Left). after r (λ s g m cs. okay (seeing s) g m cs)) (moof-run (boxEnd h) seen f n bs) ∙ in-leaf (boxEnd h) n bs (beginMoofBoxes id (boxEnd h) seen f n))
       (skip-run left (stepLeafBody id) (boxEnd h) (leaves.Skip (boxEnd h)) skipped (λ g m b. refl) f n bs)
 
-  leaf-steps : (slot : Slot) (a : LeafSo) (s : Box LeafBody) (f : Flow) (n b : ℕ) → stepLeaf id slot (wrapLeaf a s) f n b ≡ stepBoxes (leafBoxes id slot) wrapLeaf a s f n b
+  leaf-steps : (slot : Slot) (a : LeafSo) (s : BoxPhase LeafBody) (f : Flow) (n b : ℕ) → stepLeaf id slot (wrapLeaf a s) f n b ≡ stepBoxes (leafBoxes id slot) wrapLeaf a s f n b
   unfolding stepLeaf
   leaf-steps slot a (inHead h) f n b = refl
   leaf-steps slot a (inBody s) f n b = refl

@@ -14,8 +14,8 @@ use Rattle.basics.proofs.Picks.{pick-with}
 use Rattle.basics.proofs.Tests.{and-both, and-not}
 use Rattle.basics.proofs.Options.{absurd-some, then-cong, then-none, then-assoc, then-pick, then-inv, pick-some}
 use Rattle.segment.specs.Constants.{styp, sidx, moof, mdat, traf, tfhd, tfdt}
-use Rattle.segment.specs.Boxes.{provided, Field, field, Box, firstBox, cut, boxes, without, timeBytes, tfhdTrack, tfdtTime}
-use Rattle.segment.specs.Leaves.{moofFirst, leafBoxes, trafTimes, gather, moofTimes, nonEmpty, leafTimes}
+use Rattle.segment.specs.Boxes.{provided, Field, field, Box, firstBox, cutBoxes, boxes, without, timeBytes, tfhdTrack, tfdtTime}
+use Rattle.segment.specs.Leaves.{moofFirst, boxesOfLeaf, trafTimes, gather, moofTimes, nonEmpty, leafTimes}
 use Rattle.segment.specs.Tree.{firstTime}
 use Rattle.segment.specs.Parts.{At}
 use Rattle.segment.proofs.Said.{then-goes, field-some, field-rest}
@@ -247,7 +247,7 @@ module _ {X : Type 0} (f : Flow) where
 pub leaf-tree : {X : Type 0} (id : ℕ) (slot : Slot) (f : Flow) (n : ℕ) (xs ys : List ℕ) (k : Seen → Flow → ℕ → List ℕ → Option X) →
     slot .end ≡ n + length xs → 0 < length xs → noRoom (f .leaves) (f .table) ≡ false →
     upon (leafD id slot f n (xs ++ ys)) k ≡ andThen (leafTimes id xs) (λ ts. andThen (climb (leafSo0 (f .last) .seen) ts) (λ s. k s f (slot .end) ys))
-unfolding leafNext leafTimes leafBoxes clean
+unfolding leafNext leafTimes boxesOfLeaf clean
 leaf-tree id slot f n xs ys k e some' room =
     list-tree (state.leafBoxes id slot) (λ so. leafBodyD id (so .seen)) (leafWalk id slot f) (λ so. so .seen) (λ so. leafLacks slot so (left f)) (slot .end) f
     (λ so. refl) (λ so. refl) (λ so h. refl)
@@ -255,14 +255,14 @@ leaf-tree id slot f n xs ys k e some' room =
     (λ so r. leafLacks slot (leafNow so r) (left f)) (λ so r m. refl) (λ so r. refl)
     (length (xs ++ ys)) (leafSo0 (f .last)) n xs ys k some' e (omega arith)
     ∙ then-cong (boxes xs) _ _ (λ bs q. leaf-walk id slot f room (f .last) n bs (λ s. k s f (slot .end) ys))
-    ∙ sym (then-assoc (leafBoxes xs) _ _ ∙ then-assoc (boxes xs) _ _
+    ∙ sym (then-assoc (boxesOfLeaf xs) _ _ ∙ then-assoc (boxes xs) _ _
     ∙ then-cong (boxes xs) _ _ (λ bs q. then-cong (provided (without (styp ∷ sidx ∷ []) bs) (provided (moofFirst bs) (some bs))) _ _ (λ cs q'. then-assoc (gather moof (moofTimes id) cs) nonEmpty _)))
 
 -- The first time that a leaf shows is the first of its times.
 pub leaf-first : (id last : ℕ) (xs ts : List ℕ) (s : Seen) → leafTimes id xs ≡ some ts → climb (leafSo0 last .seen) ts ≡ some s → s .first ≡ firstTime ts
 unfolding leafTimes
 leaf-first id last xs ts s e c =
-    let (bs, _, p) = then-inv (leafBoxes xs) _ ts e in
+    let (bs, _, p) = then-inv (boxesOfLeaf xs) _ ts e in
     let (us, _, q) = then-inv (gather moof (moofTimes id) bs) nonEmpty ts p in
     first-seen last ts us s q c
 
@@ -284,13 +284,13 @@ head-read end (cutOff l n) h f m cs e = absurd-some e
 -- the first box of a leaf of the tree is no `styp`, `sidx` or `mdat`
 leaf-starts : (id : ℕ) (xs ts : List ℕ) → leafTimes id xs ≡ some ts →
     (0 < length xs) × (b : Box) × (firstBox xs ≡ some b) × (eqb (b .kind) styp ≡ false) × (eqb (b .kind) sidx ≡ false) × (eqb (b .kind) mdat ≡ false)
-unfolding leafTimes leafBoxes cut andThen pick without moofFirst gather nonEmpty
+unfolding leafTimes boxesOfLeaf cutBoxes andThen pick without moofFirst gather nonEmpty
 leaf-starts id [] ts e = absurd-some e
 leaf-starts id (x ∷ xs) ts e =
-    let (bs, p, _) = then-inv (leafBoxes (x ∷ xs)) _ ts e in
+    let (bs, p, _) = then-inv (boxesOfLeaf (x ∷ xs)) _ ts e in
     let (whole, holds) = leaf-holds (x ∷ xs) bs p in
     let (b, first, q) = then-inv (firstBox (x ∷ xs)) _ bs whole in
-    let (ds, _, r) = then-inv (cut (length xs) (drop (b .size) (x ∷ xs))) _ bs q in
+    let (ds, _, r) = then-inv (cutBoxes (length xs) (drop (b .size) (x ∷ xs))) _ bs q in
     let here : At bs 0 b = ap (λ (cs : List Box). getElem? cs 0) (sym (boxes-same (b ∷ ds) bs r)) in
     let (no-styp, no-sidx) = holds .none 0 b here in
     (omega arith, b, first, ne-eqb (b .kind) styp no-styp, ne-eqb (b .kind) sidx no-sidx, ne-eqb (b .kind) mdat (λ is. let (i, a, before, there, is-moof) = holds .before 0 b here is in omega arith))

@@ -12,7 +12,7 @@ use borrow.Author.Tests.{eq-eqb, ne-eqb}
 use Rattle.basics.specs.Choose.{pick, andThen}
 use Rattle.basics.proofs.Picks.{pick-yes, pick-no, pick-if, pick-with}
 use Rattle.basics.proofs.Options.{then-cong, then-assoc, then-pick}
-use Rattle.segment.specs.Boxes.{Box, firstBox, cut, boxes}
+use Rattle.segment.specs.Boxes.{Box, firstBox, cutBoxes, boxes}
 use Rattle.machine.specs.Run.{Res, okay}
 use Rattle.machine.specs.Lists.{Next, again, over, Boxes, boxD, goOnD, boxesD}
 use Rattle.machine.specs.declared.Refusal.{Refusal}
@@ -27,14 +27,14 @@ use Rattle.segment.proofs.Said.{FirstBox, first-box}
 -- Whole boxes of the tree.
 
 -- no bytes are no boxes
-cut-nil : (j : ℕ) → cut j [] ≡ some []
-unfolding cut
+cut-nil : (j : ℕ) → cutBoxes j [] ≡ some []
+unfolding cutBoxes
 cut-nil zero = refl
 cut-nil (suc j) = refl
 
 -- bytes are a box and then boxes
-cut-cons : (j : ℕ) (xs : List ℕ) → 0 < length xs → cut (suc j) xs ≡ andThen (firstBox xs) (λ b. andThen (cut j (drop (b .size) xs)) (λ bs. some (b ∷ bs)))
-unfolding cut
+cut-cons : (j : ℕ) (xs : List ℕ) → 0 < length xs → cutBoxes (suc j) xs ≡ andThen (firstBox xs) (λ b. andThen (cutBoxes j (drop (b .size) xs)) (λ bs. some (b ∷ bs)))
+unfolding cutBoxes
 cut-cons j [] l = absurd (omega arith)
 cut-cons j (x ∷ xs) l = refl
 
@@ -55,19 +55,19 @@ module _ {A R Q X : Type 0} (w : Walk A R) (result : A → Q) (lacks : A → Lis
   tell h ys a = pick (clean (lacks a)) (h (result a) f end ys) none
 
   abbrev toldBy : ℕ → A → ℕ → List ℕ → List ℕ → (Q → Flow → ℕ → List ℕ → Option X) → Option X
-  toldBy j a n xs ys h = andThen (cut j xs) (λ bs. andThen (walk w a n bs) (tell h ys))
+  toldBy j a n xs ys h = andThen (cutBoxes j xs) (λ bs. andThen (walk w a n bs) (tell h ys))
 
   told-nil : (j : ℕ) (a : A) (n : ℕ) (ys : List ℕ) (h : Q → Flow → ℕ → List ℕ → Option X) → toldBy j a n [] ys h ≡ tell h ys a
   unfolding andThen walk
   told-nil j a n ys h = rw (cut-nil j)
 
   told-cons : (j : ℕ) (a : A) (n : ℕ) (xs ys : List ℕ) (h : Q → Flow → ℕ → List ℕ → Option X) → 0 < length xs →
-      toldBy (suc j) a n xs ys h ≡ andThen (firstBox xs) (λ b. andThen (cut j (drop (b .size) xs)) (λ bs. andThen (walk w a n (b ∷ bs)) (tell h ys)))
+      toldBy (suc j) a n xs ys h ≡ andThen (firstBox xs) (λ b. andThen (cutBoxes j (drop (b .size) xs)) (λ bs. andThen (walk w a n (b ∷ bs)) (tell h ys)))
   unfolding andThen
   told-cons j a n xs ys h l =
       ap (λ o. andThen o (λ bs. andThen (walk w a n bs) (tell h ys))) (cut-cons j xs l)
       ∙ then-assoc (firstBox xs) _ _
-      ∙ then-cong (firstBox xs) _ _ (λ b e. then-assoc (cut j (drop (b .size) xs)) _ _)
+      ∙ then-cong (firstBox xs) _ _ (λ b e. then-assoc (cutBoxes j (drop (b .size) xs)) _ _)
 
 -- A list `l` with bodies `bodyD`, beside a walk `w`: a body gives what the walk's item says and leaves what flows; a box before the end
 -- leads on to what is next known, and the last one to the result, with the faults `last`, which hold those of the walk and what is lacking.
@@ -132,7 +132,7 @@ module _ {A B R Q X : Type 0} (l : Boxes A B R Q Flow Left) (bodyD : A → Heade
       list-by turns j (w .next a r) (n + b .size) (drop (b .size) xs) ys h more (omega arith) (omega arith)
       (omega (arith, length-append (drop (b .size) xs) ys, length-append xs ys)))))
       (λ faulty. refl)
-      ∙ swap (cut j (drop (b .size) xs)) (clean (w .shown a (headerOf n b))) (w .item a n b) (λ r. clean (w .ends a r))
+      ∙ swap (cutBoxes j (drop (b .size) xs)) (clean (w .shown a (headerOf n b))) (w .item a n b) (λ r. clean (w .ends a r))
       (λ r bs. walk w (w .next a r) (n + b .size) bs) (tell w result lacks end f h ys))
       ∙ sym (told-cons w result lacks end f j a n xs ys h some')
 

@@ -10,7 +10,7 @@ use Rattle.basics.proofs.Picks.{pick-both}
 use Rattle.segment.specs.Constants.{styp, sidx}
 use Rattle.machine.specs.Run.{Sub, go, done, lift, Res, okay, after, contBy, run, cont, fieldD, plain}
 use Rattle.machine.specs.Heads.{boxEnd}
-use Rattle.machine.specs.Lists.{Box, inHead, inBody, stepBoxes}
+use Rattle.machine.specs.Lists.{BoxPhase, inHead, inBody, stepBoxes}
 use Rattle.machine.specs.declared.Header.{Header}
 use Rattle.machine.specs.declared.Head.the-variants as at
 use Rattle.machine.proofs.Faults.{unless-both}
@@ -27,16 +27,16 @@ use Rattle.state.specs.declared.OpeningBoxes.the-variants as boxes
 use Rattle.state.specs.Flow.{Flow, Left, left}
 use Rattle.state.specs.Rows.{is}
 use Rattle.state.specs.Sidx.{topmost, sidxStart, stepSidx}
-use Rattle.state.specs.Opening.{Opened, passed, indexed, spanOf, unlisted, brandsFrom, stypEnds, beginOpening, stepOpeningBody, opening, wrapOpening, stepOpening}
+use Rattle.state.specs.Opening.{OpeningGave, passed, indexed, spanOf, unlisted, brandsFrom, stypEnds, beginOpening, stepOpeningBody, opening, wrapOpening, stepOpening}
 use Rattle.descent.specs.Opening.{brandsD, stypD, openingBodyD, openingD}
 use Rattle.demands.proofs.SidxRun.{sidx-run}
 
 module _ (brand : ℕ) where
-  abbrev O : ℕ → List ℕ → Sub OpeningBody Opened Flow Left → Res Opened Flow Left
+  abbrev O : ℕ → List ℕ → Sub OpeningBody OpeningGave Flow Left → Res OpeningGave Flow Left
   O n bs r = cont left (stepOpeningBody brand) n bs r
 
   -- a number of a `styp`
-  number : (span : Span) (p : StypPart) (found : Bool) (k : ℕ → Flow → ℕ → List ℕ → Res Opened Flow Left) (N : ℕ) →
+  number : (span : Span) (p : StypPart) (found : Bool) (k : ℕ → Flow → ℕ → List ℕ → Res OpeningGave Flow Left) (N : ℕ) →
       ((v : ℕ) (f : Flow) (n : ℕ) (bs : List ℕ) → length bs < N → k v f n bs ≡ O n bs (stypEnds brand span p found v f n)) →
       (f : Flow) (n : ℕ) (bs : List ℕ) → length bs ≤ N → fieldD left plain k 4 0 f n bs ≡ O n bs (go (body.Styp span p found 3 0) f)
   unfolding stepOpeningBody contBy
@@ -74,6 +74,6 @@ module _ (brand : ℕ) where
   unfolding stepOpening
   opening-run f n bs = boxes-run (opening brand) wrapOpening (stepOpening brand) steps (λ a. refl) (λ a. openingBodyD brand) (λ a. opening-body) (suc (length bs)) false f n bs (omega arith)
     where
-      steps : (a : Bool) (s : Box OpeningBody) (g : Flow) (m b : ℕ) → stepOpening brand (wrapOpening a s) g m b ≡ stepBoxes (opening brand) wrapOpening a s g m b
+      steps : (a : Bool) (s : BoxPhase OpeningBody) (g : Flow) (m b : ℕ) → stepOpening brand (wrapOpening a s) g m b ≡ stepBoxes (opening brand) wrapOpening a s g m b
       steps a (inHead h) g m b = refl
       steps a (inBody s) g m b = refl

@@ -26,7 +26,7 @@ use Rattle.state.specs.declared.Index.{Index}
 use Rattle.state.specs.Flow.{Flow, Left, left}
 use Rattle.state.specs.Rows.{is, bodyLength, openingFaults}
 use Rattle.state.specs.Sidx.{topmost, sumFaults}
-use Rattle.state.specs.Opening.{Opened, passed, indexed, spanOf, openingBox, closeOpening, opening}
+use Rattle.state.specs.Opening.{OpeningGave, passed, indexed, spanOf, openingBox, closeOpening, opening}
 use Rattle.descent.specs.Sidx.{sidxD}
 use Rattle.descent.specs.Opening.{skipTo, stypD, openingBodyD, openingD}
 use Rattle.demands.specs.Told.{upon, clean, headLength, headerOf, indexFrom, withEntries}
@@ -79,12 +79,12 @@ skip-body r f b pos zs k e = skip-tree r k (pos + b .size) f (pos + headLength b
 
 module _ {X : Type 0} (brand : ℕ) (f : Flow) where
   -- a body that is cut off is not accepted
-  body-cut : (K : Opened → Flow → ℕ → List ℕ → Option X) (h : Header) (m : ℕ) (cs : List ℕ) → m + length cs < boxEnd h → upon (openingBodyD brand h f m cs) K ≡ none
+  body-cut : (K : OpeningGave → Flow → ℕ → List ℕ → Option X) (h : Header) (m : ℕ) (cs : List ℕ) → m + length cs < boxEnd h → upon (openingBodyD brand h f m cs) K ≡ none
   unfolding openingBodyD upon either
   body-cut K h m cs l =
-      pick-if (is h styp) (λ (r : Res Opened Flow Left). upon r K) _ _ none
+      pick-if (is h styp) (λ (r : Res OpeningGave Flow Left). upon r K) _ _ none
       (λ e. styp-cut brand (spanOf h) f K m cs l)
-      (λ e. pick-if (is h sidx) (λ (r : Res Opened Flow Left). upon r K) _ _ none
+      (λ e. pick-if (is h sidx) (λ (r : Res OpeningGave Flow Left). upon r K) _ _ none
       (λ e'. upon-after (sidxD topmost (spanOf h) f m cs) (λ x g n ds. okay (indexed x) g n ds) K ∙ sidx-cut topmost (spanOf h) f m cs (λ x g n ds. K (indexed x) g n ds) l)
       (λ e'. ap (λ (r : Res (Unit {0}) Flow Left). upon (after r (λ u g n ds. okay passed g n ds)) K) (skip-short left (boxEnd h - m) f m cs (omega arith))))
 
@@ -94,7 +94,7 @@ module _ {X : Type 0} (brand : ℕ) (f : Flow) where
     boxesFrom turns branded n bs = boxesD (opening brand) (λ b. openingBodyD brand) turns branded f n bs
 
     -- what is made of a box
-    abbrev next : ℕ → Bool → Opened → Flow → ℕ → List ℕ → Option X
+    abbrev next : ℕ → Bool → OpeningGave → Flow → ℕ → List ℕ → Option X
     next turns branded r g m cs = upon (goOnD (opening brand) (λ b. openingBodyD brand) (boxesD (opening brand) (λ b. openingBodyD brand) turns) (closeOpening branded r g m) g m cs) k
 
     -- a box of the tree, and what follows it
@@ -117,7 +117,7 @@ module _ {X : Type 0} (brand : ℕ) (f : Flow) where
           (upon (skipTo passed (boxEnd (headerOf n b)) f (n + headLength b) (b .body ++ drop (b .size) bs)) (next turns branded)))
       unfolding openingBodyD
       by-kind =
-          let K : Res Opened Flow Left → Option X = λ r. upon r (next turns branded) in
+          let K : Res OpeningGave Flow Left → Option X = λ r. upon r (next turns branded) in
           pick-both (is (headerOf n b) styp) K (λ o. o) _ _ _ _ refl (pick-both (is (headerOf n b) sidx) K (λ o. o) _ _ _ _ refl refl)
 
       -- a `styp`

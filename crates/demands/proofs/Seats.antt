@@ -87,7 +87,8 @@ seat-fits (l ∷ ls) n table h =
     let r : recordNumbers * suc n ≡ recordNumbers * n + length (numbersOf (recordOf l)) = omega arith in
     rw (lt-leb (room table) n (omega arith), q)
     (seat-fits ls (suc n) next (rw (room-put table (recordNumbers * n) (numbersOf (recordOf l))) (omega arith))
-    ∙ ap (λ (t : List ℕ). fine (record { leaves = suc n + length ls; table = t })) (ap (λ (k : ℕ). putAll next k (recordsOf ls)) r ∙ put-more table (recordNumbers * n) (numbersOf (recordOf l)) (recordsOf ls)))
+    ∙ ap (λ (t : List ℕ). fine (record { leaves = suc n + length ls; table = t }))
+    (ap (λ (k : ℕ). putAll next k (recordsOf ls)) r ∙ put-more table (recordNumbers * n) (numbersOf (recordOf l)) (recordsOf ls)))
 
 -- leaves beyond the room: the first of them is where the table is full
 pub seat-full : (ls : List Leaf) (n : ℕ) (table : List ℕ) (i : ℕ) (l : Leaf) → n + i ≡ room table → At ls i l → seat ls n table ≡ full (l .position)

@@ -15,7 +15,7 @@ use Rattle.segment.specs.Constants.{sidx, styp, levels as mostLevels}
 use Rattle.machine.specs.Faults.{shows}
 use Rattle.machine.specs.Run.{Sub, go, done, bad, lift, Res, okay, either, after, contBy, run, cont}
 use Rattle.machine.specs.Heads.{boxEnd}
-use Rattle.machine.specs.Lists.{Box, inHead, inBody, stepBox, stepBoxes, boxesD}
+use Rattle.machine.specs.Lists.{BoxPhase, inHead, inBody, stepBox, stepBoxes, boxesD}
 use Rattle.machine.specs.declared.Header.{Header}
 use Rattle.machine.specs.declared.Head.the-variants as at
 use Rattle.machine.proofs.Faults.{unless-both, none-first, none-second, shows-none}
@@ -50,7 +50,7 @@ use Rattle.state.specs.Step.{stage0}
 use Rattle.descent.specs.Sidx.{sidxD}
 use Rattle.descent.specs.Opening.{skipTo}
 use Rattle.descent.specs.Leaf.{leafD}
-use Rattle.descent.specs.Whole.{gapD, Under, innerD, slotD, readBackD, entryD, entriesD, underD, materialD, segmentD}
+use Rattle.descent.specs.Whole.{gapD, UnderD, innerD, slotD, readBackD, entryD, entriesD, underD, materialD, segmentD}
 use Rattle.machine.proofs.Readings.{says-okay, says-box}
 use Rattle.demands.proofs.Upons.{Never, Anyhow, each-any}
 use Rattle.demands.proofs.SidxRun.{sidx-run}
@@ -62,7 +62,7 @@ abbrev pub S : ℕ → List ℕ → Sub Stage Top Flow Left → Res Top Flow Lef
 S n bs r = cont left stepStage n bs r
 
 -- The gap.
-gap-steps : (end : ℕ) (a : Unit {0}) (s : Box ℕ) (f : Flow) (n b : ℕ) → stepGap end (wrapGap a s) f n b ≡ stepBoxes (gapBoxes end) wrapGap a s f n b
+gap-steps : (end : ℕ) (a : Unit {0}) (s : BoxPhase ℕ) (f : Flow) (n b : ℕ) → stepGap end (wrapGap a s) f n b ≡ stepBoxes (gapBoxes end) wrapGap a s f n b
 unfolding stepGap
 gap-steps end tt (inHead h) f n b = refl
 gap-steps end tt (inBody s) f n b = refl
@@ -135,12 +135,12 @@ in-leaf top ls slot n bs r =
     inside left (stepLeaf (top .id) slot) stepStage (stage.Leaf top ls slot) (λ m seen g. follow top ls (listed g (leafRecord slot (g .now) (seen .first)) (slot .until) (seen .last)))
     (λ s g m b. refl) n bs r
 
-inner-steps : (top : Top) (ls : Levels) (slot : Slot) (s : Box InnerBody) (f : Flow) (n b : ℕ) → stepStage (stage.Inner top ls slot (wrapInner s)) f n b ≡ stepInner top ls slot s f n b
+inner-steps : (top : Top) (ls : Levels) (slot : Slot) (s : BoxPhase InnerBody) (f : Flow) (n b : ℕ) → stepStage (stage.Inner top ls slot (wrapInner s)) f n b ≡ stepInner top ls slot s f n b
 unfolding stepStage
 inner-steps top ls slot (inHead h) f n b = refl
 inner-steps top ls slot (inBody s) f n b = refl
 
-in-inner : (top : Top) (ls : Levels) (slot : Slot) (n : ℕ) (bs : List ℕ) (r : Sub (Box InnerBody) Index Flow Left) →
+in-inner : (top : Top) (ls : Levels) (slot : Slot) (n : ℕ) (bs : List ℕ) (r : Sub (BoxPhase InnerBody) Index Flow Left) →
     S n bs (liftInner top ls slot r) ≡ after (cont left (stepBox (innerKind top slot (depth ls))) n bs r) (λ x g m cs. S m cs (follow top (push ls (innerLevel x slot)) g))
 in-inner top ls slot n bs r =
     inside left (stepBox (innerKind top slot (depth ls))) stepStage (λ s. stage.Inner top ls slot (wrapInner s)) (λ m x g. follow top (push ls (innerLevel x slot)) g) (inner-steps top ls slot) n bs r
@@ -198,11 +198,11 @@ module _ (top : Top) where
   rest o u g m cs = S m cs (onward top o g)
 
   -- what is known of an index opened inside: its entries, all to come
-  abbrev Opens : Under → Levels → Type 0
+  abbrev Opens : UnderD → Levels → Type 0
   Opens inner ls = (l : Level) → l .next ≡ 0 → (f : Flow) (n : ℕ) (bs : List ℕ) →
       S n bs (follow top (push (tookEntry ls) l) f) ≡ after (inner (suc (depth ls)) l f n bs) (λ u g m cs. S m cs (follow top (tookEntry ls) g))
 
-  module _ (inner : Under) (ls : Levels) (ih : depth ls < 4 → Opens inner ls) where
+  module _ (inner : UnderD) (ls : Levels) (ih : depth ls < 4 → Opens inner ls) where
     abbrev next : Unit {0} → Flow → ℕ → List ℕ → Res Top Flow Left
     next u g m cs = S m cs (follow top (tookEntry ls) g)
 
@@ -238,7 +238,7 @@ module _ (top : Top) where
         let e : StoredEntry = entryAt (f .work) (entryPlace ls) in
         unless-both (S (suc n) bs) (λ r. after r next) _ _ _ _ (entryFaults (inmost ls) e (f .now) n) (λ x. refl) (slot-run (e .inner) (slotOf e (f .now) n) f n b bs)
 
-  entries-run : (inner : Under) (k : ℕ) (ls : Levels) → k + inmost ls .next ≡ inmost ls .count → ((ms : Levels) → depth ms ≡ depth ls → depth ms < 4 → Opens inner ms) →
+  entries-run : (inner : UnderD) (k : ℕ) (ls : Levels) → k + inmost ls .next ≡ inmost ls .count → ((ms : Levels) → depth ms ≡ depth ls → depth ms < 4 → Opens inner ms) →
       (f : Flow) (n : ℕ) (bs : List ℕ) →
       S n bs (follow top ls f) ≡ after (entriesD inner top (depth ls) k (inmost ls) f n bs) (rest (outerOpen ls))
   unfolding entriesD either onward contBy

@@ -16,7 +16,7 @@ use Rattle.basics.proofs.Picks.{lt-or-ge, pick-with}
 use Rattle.basics.proofs.Tests.{and-both, or-neither, same-test}
 use Rattle.basics.proofs.Options.{then-cong, then-none, then-assoc, then-inv, then-pick, pick-then, pick-some, pick-else, absurd-some}
 use Rattle.segment.specs.Constants.{entryBytes, mostEntries}
-use Rattle.segment.specs.Boxes.{provided, unless, Field, field, Entry, entryOf, entriesOf, sizes, durations, timeBytes, sidxIndex}
+use Rattle.segment.specs.Boxes.{provided, except, Field, field, Entry, entryOf, entriesOf, sizes, durations, timeBytes, sidxIndex}
 use Rattle.segment.specs.Boxes as tree
 use Rattle.segment.proofs.Said.{then-goes, field-some, field-none}
 use Rattle.segment.proofs.NonEmpty.{entries-count, Sized, entries-sized}
@@ -37,7 +37,7 @@ use Rattle.state.specs.declared.EntryPart.the-variants as entry
 use Rattle.state.specs.Flow.{Flow, Left, left, withWork}
 use Rattle.basics.specs.Put.{putAll}
 use Rattle.state.specs.Sidx.{sidxVersionFaults, idFaults, scaleFaults, timeFaults, offsetFaults, countFaults, sumFaults, entrySizeFaults}
-use Rattle.state.specs.Sidx.{Place, topmost, under, partOf, wideMore, indexOf, sizeOf, plusSize, plusDuration, nextEntry, wordPlace, numberPlace, keepByte}
+use Rattle.state.specs.Sidx.{Place, topmost, under, partOf, wideMore, indexOf, entrySize, plusSize, plusDuration, nextEntry, wordPlace, numberPlace, keepByte}
 use Rattle.descent.specs.Sidx.{closeD, entryD, entriesD, countedD, countD, reservedD, offsetD, timeD, scaleD, idD, flagsD, versionD, sidxD}
 use Rattle.demands.specs.Told.{upon, clean, indexFrom, entryPart, withEntries, suits}
 use Rattle.demands.proofs.Upons.{each-any, upon-here, upon-unless, upon-okay, clean-append, clean-shows}
@@ -193,9 +193,9 @@ module _ (t : Bool) (xs : List ℕ) where
   -- the index of the tree, where the bytes of its numbers are there
   abbrev restHere : Option tree.Index
   restHere =
-      unless (eqb scaleHere 0)
-      (unless (eqb countHere 0)
-      (unless (ltb mostEntries countHere)
+      except (eqb scaleHere 0)
+      (except (eqb countHere 0)
+      (except (ltb mostEntries countHere)
       (provided (eqb (length atEntries) (entryBytes * countHere))
       (andThen (entriesOf countHere atEntries) (λ entries.
       some (record { id = idHere; scale = scaleHere; time = timeHere; offset = offsetHere; entries = entries }))))))
@@ -419,13 +419,13 @@ module _ {X : Type 0} (p : Place) (span : Span) (h : Index → Flow → ℕ → 
       let last : upon (more (plusEntry s (entryHere zs)) (putInto f2 (base + 8) (take 4 (drop 4 (drop 4 zs)))) (n + 4 + 4 + 4) (drop 4 (drop 4 (drop 4 zs)) ++ ys)) h ≡ told (entryHere zs) =
       rw (q, three-words (f .work) base zs l, d) in
       word-upon entry.Size s _ f n zs ys (omega arith)
-      ∙ upon-shows (eqb (sizeOf word) 0) 11 (span .pos) _ _ _ h (told (entryHere zs))
+      ∙ upon-shows (eqb (entrySize word) 0) 11 (span .pos) _ _ _ h (told (entryHere zs))
       (word-upon entry.Duration (plusSize s word)
       (λ duration g m cs. fieldD left (keepByte p entry.Sap (plusDuration (plusSize s word) duration)) (λ sap i o es. more (plusDuration (plusSize s word) duration) i o es) 4 0 g m cs)
       f1 (n + 4) (drop 4 zs) ys (omega arith)
       ∙ word-upon entry.Sap (plusDuration (plusSize s word) dur) (λ sap i o es. more (plusDuration (plusSize s word) dur) i o es) f2 (n + 4 + 4) (drop 4 (drop 4 zs)) ys (omega arith)
       ∙ last)
-      ∙ sym (ap (λ o. andThen o told) (entry-here zs l) ∙ pick-then (eqb (sizeOf word) 0) (some (entryHere zs)) told)
+      ∙ sym (ap (λ o. andThen o told) (entry-here zs l) ∙ pick-then (eqb (entrySize word) 0) (some (entryHere zs)) told)
 
   -- the index that entries end
   abbrev indexWith : Draft → Sums → List Entry → Index

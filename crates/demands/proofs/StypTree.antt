@@ -18,7 +18,7 @@ use Rattle.segment.specs.Boxes.{among, Field, field, words, stypBrands}
 use Rattle.machine.specs.Run.{Res, okay, fieldD, plain}
 use Rattle.state.specs.declared.Span.{Span}
 use Rattle.state.specs.Flow.{Flow, Left, left}
-use Rattle.state.specs.Opening.{Opened, passed, unlisted}
+use Rattle.state.specs.Opening.{OpeningGave, passed, unlisted}
 use Rattle.descent.specs.Opening.{brandsD, stypD}
 use Rattle.demands.specs.Told.{upon, clean}
 use Rattle.segment.proofs.Said.{then-goes, field-some, field-none}
@@ -70,7 +70,7 @@ styp-odd xs e = pick-no (eqb (length xs % 4) 0) _ none e
 abbrev pub misfit : ℕ → Bool
 misfit n = ltb n 8 || not (eqb (n % 4) 0)
 
-module _ {X : Type 0} (brand : ℕ) (span : Span) (f : Flow) (k : Opened → Flow → ℕ → List ℕ → Option X) where
+module _ {X : Type 0} (brand : ℕ) (span : Span) (f : Flow) (k : OpeningGave → Flow → ℕ → List ℕ → Option X) where
   -- at the end of the `styp`: the brand must have been found
   at-end : (found : Bool) (n : ℕ) (ys : List ℕ) → n ≡ span .end → pick (clean (unlisted span found)) (k passed f n ys) none ≡ pick (found || false) (k passed f (span .end) ys) none
   unfolding pick
@@ -84,13 +84,13 @@ module _ {X : Type 0} (brand : ℕ) (span : Span) (f : Flow) (k : Opened → Flo
   brands-tree zero zero found n zs ys l e t = absurd (omega arith)
   brands-tree (suc c) zero found n zs ys l e t = absurd (omega arith)
   brands-tree zero (suc turns) found n [] ys l e t =
-      ap (λ (r : Res Opened Flow Left). upon r k) (pick-yes (eqb n (span .end)) _ _ (eq-eqb n (span .end) (omega arith)))
+      ap (λ (r : Res OpeningGave Flow Left). upon r k) (pick-yes (eqb n (span .end)) _ _ (eq-eqb n (span .end) (omega arith)))
       ∙ upon-unless (unlisted span found) (left f) n (okay passed f n ys) k
       ∙ at-end found n ys (omega arith)
   brands-tree zero (suc turns) found n (z ∷ zs) ys l e t = absurd (omega arith)
   brands-tree (suc c) (suc turns) found n zs ys l e t =
       let v = number (take 4 zs) in
-      ap (λ (r : Res Opened Flow Left). upon r k) (pick-no (eqb n (span .end)) _ _ (ne-eqb n (span .end) (λ q. omega arith)))
+      ap (λ (r : Res OpeningGave Flow Left). upon r k) (pick-no (eqb n (span .end)) _ _ (ne-eqb n (span .end) (λ q. omega arith)))
       ∙ upon-here (λ v g m cs. brandsD turns brand span (found || eqb v brand) g m cs) k 4 f n zs ys (omega arith)
       ∙ brands-tree c turns (found || eqb v brand) (n + 4) (drop 4 zs) ys (omega (arith, length-drop 4 zs)) (omega (arith, length-drop 4 zs)) (omega arith)
       ∙ then-cong (words c (drop 4 zs)) _ _
@@ -129,7 +129,7 @@ module _ {X : Type 0} (brand : ℕ) (span : Span) (f : Flow) (k : Opened → Flo
   unfolding brandsD upon
   brands-cut zero found n bs l = refl
   brands-cut (suc turns) found n bs l =
-      ap (λ (r : Res Opened Flow Left). upon r k) (pick-no (eqb n (span .end)) _ _ (ne-eqb n (span .end) (λ q. omega arith)))
+      ap (λ (r : Res OpeningGave Flow Left). upon r k) (pick-no (eqb n (span .end)) _ _ (ne-eqb n (span .end) (λ q. omega arith)))
       ∙ field-cut (λ v g m cs. brandsD turns brand span (found || eqb v brand) g m cs) k 4 f n bs
       (λ v e. brands-cut turns (found || eqb v brand) (n + 4) (drop 4 bs) (omega (arith, length-drop 4 bs)))
 

@@ -28,7 +28,7 @@ use Rattle.state.specs.Rows.{noRoom}
 use Rattle.state.specs.Levels.{entryAt, altered, slotOf, took}
 use Rattle.state.specs.Stages.{innerLevel, leafRecord}
 use Rattle.descent.specs.Leaf.{leafD}
-use Rattle.descent.specs.Whole.{Under, innerD, slotD, readBackD, entryD, entriesD}
+use Rattle.descent.specs.Whole.{UnderD, innerD, slotD, readBackD, entryD, entriesD}
 use Rattle.demands.specs.Told.{climb}
 use Rattle.covering.specs.Records.{recordOf}
 use Rattle.demands.specs.Verdict.{Verdict, judge, told, seen0, enlist, Meets}
@@ -151,7 +151,7 @@ module _ (X : Type 0) (top : Top) (depth : ℕ) where
   Entered read parts = (e : tree.Entry) (f g : Flow) (n : ℕ) (xs ys : List ℕ) (h : Goes X) (K : Flow → Verdict X) → e .size ≡ length xs → 0 < length xs → workBytes ≤ length (f .work) →
       Like f g → Follows (levelBytes * depth) (f .work) (f .now + e .duration) h (n + e .size) ys K → Meets (judge (read e f n (xs ++ ys)) h) (tells (parts e n (f .now) xs) g K)
 
-  module _ (inner : Under) (underT : tree'.Under) where
+  module _ (inner : UnderD) (underT : tree'.Under) where
     -- an inner index and all that it indexes
     abbrev pub Deeper : Type 0
     Deeper = Entered

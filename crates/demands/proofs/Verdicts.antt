@@ -97,7 +97,8 @@ pub enlist-append : {X : Type 0} (ps qs : List Part) (f : Flow) (k : Flow → Ve
 unfolding enlist
 enlist-append [] qs f k = refl
 enlist-append (leafPart l ts ∷ ps) qs f k =
-    ap (pick (noRoom (f .leaves) (f .table)) (full (l .position))) (told-cong (climb (seen0 (f .last)) ts) _ _ (λ s e. enlist-append ps qs (listed f (recordOf l) (l .start + l .duration) (s .last)) k))
+    ap (pick (noRoom (f .leaves) (f .table)) (full (l .position)))
+    (told-cong (climb (seen0 (f .last)) ts) _ _ (λ s e. enlist-append ps qs (listed f (recordOf l) (l .start + l .duration) (s .last)) k))
 enlist-append (indexPart p s ∷ ps) qs f k = enlist-append ps qs f k
 
 pub enlist-not : {X : Type 0} (ps : List Part) (f : Flow) (k : Flow → Verdict X) → ((g : Flow) → NotFine (k g)) → NotFine (enlist ps f k)

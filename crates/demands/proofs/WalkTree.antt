@@ -12,7 +12,7 @@ use Rattle.basics.specs.Choose.{pick, andThen}
 use Rattle.basics.proofs.Picks.{pick-yes, pick-no, pick-if, pick-both}
 use Rattle.basics.proofs.Options.{absurd-some, then-cong, then-none, then-assoc, then-some, then-pick, then-inv, pick-else, pick-then}
 use Rattle.segment.specs.Constants.{styp, sidx, moof, traf, tfhd, tfdt, tfad}
-use Rattle.segment.specs.Boxes.{topKinds, provided, field, Box, firstBox, cut, among, only, without, timeBytes, tfhdTrack, tfdtTime}
+use Rattle.segment.specs.Boxes.{topKinds, provided, field, Box, firstBox, cutBoxes, among, only, without, timeBytes, tfhdTrack, tfdtTime}
 use Rattle.segment.specs.Leaves.{moofFirst, headAndTime, trafTimes, gather, moofTimes, nonEmpty}
 use Rattle.segment.specs.Tree.{firstTime}
 use Rattle.segment.proofs.Said.{field-rest, first-box}
@@ -39,14 +39,14 @@ Fits [] = Unit {0}
 Fits (b ∷ bs) = (length (b .body) ≤ b .size) × Fits bs
 
 -- the boxes of a list are so
-pub cut-fits : (k : ℕ) (xs : List ℕ) (bs : List Box) → cut k xs ≡ some bs → Fits bs
-unfolding cut
+pub cut-fits : (k : ℕ) (xs : List ℕ) (bs : List Box) → cutBoxes k xs ≡ some bs → Fits bs
+unfolding cutBoxes
 cut-fits zero [] bs e = let q : _≡_ {A = List Box} [] bs = cc in rw (← q) tt
 cut-fits zero (x ∷ xs) bs e = absurd-some e
 cut-fits (suc k) [] bs e = let q : _≡_ {A = List Box} [] bs = cc in rw (← q) tt
 cut-fits (suc k) (x ∷ xs) bs e =
     let (b, e₁, e₂) = then-inv (firstBox (x ∷ xs)) _ bs e in
-    let (cs, e₃, e₄) = then-inv (cut k (drop (b .size) (x ∷ xs))) _ bs e₂ in
+    let (cs, e₃, e₄) = then-inv (cutBoxes k (drop (b .size) (x ∷ xs))) _ bs e₂ in
     let q : _≡_ {A = List Box} (b ∷ cs) bs = cc in
     rw (← q) (omega (arith, first-box (x ∷ xs) b e₁ .bodied), cut-fits k (drop (b .size) (x ∷ xs)) cs e₃)
 

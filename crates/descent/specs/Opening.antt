@@ -16,7 +16,7 @@ use Rattle.state.specs.declared.Index.{Index}
 use Rattle.state.specs.Flow.{Flow, Left, left}
 use Rattle.state.specs.Rows.{is}
 use Rattle.state.specs.Sidx.{topmost}
-use Rattle.state.specs.Opening.{Opened, passed, indexed, spanOf, unlisted, opening}
+use Rattle.state.specs.Opening.{OpeningGave, passed, indexed, spanOf, unlisted, opening}
 use Rattle.descent.specs.Sidx.{sidxD}
 
 -- a body that is skipped, up to a place
@@ -24,18 +24,18 @@ abbrev pub skipTo : {R : Type 0} → R → ℕ → Flow → ℕ → List ℕ →
 skipTo r stop f n bs = after (skipD left (stop - n) f n bs) (λ u g m cs. okay r g m cs)
 
 -- compatible brands, to the end of the `styp`; each takes bytes, so that as many turns as there are bytes are enough
-unfoldable pub brandsD : ℕ → ℕ → Span → Bool → Flow → ℕ → List ℕ → Res Opened Flow Left
+unfoldable pub brandsD : ℕ → ℕ → Span → Bool → Flow → ℕ → List ℕ → Res OpeningGave Flow Left
 brandsD zero brand span listed f n bs = cut (left f) n
 brandsD (suc turns) brand span listed f n bs =
     pick (eqb n (span .end)) (unless (unlisted span listed) (λ x. fail x (left f) n) (okay passed f n bs))
     (fieldD left plain (λ v g m cs. brandsD turns brand span (listed || eqb v brand) g m cs) 4 0 f n bs)
 
 -- `styp`: major brand, minor version, compatible brands
-unfoldable pub stypD : ℕ → Span → Flow → ℕ → List ℕ → Res Opened Flow Left
+unfoldable pub stypD : ℕ → Span → Flow → ℕ → List ℕ → Res OpeningGave Flow Left
 stypD brand span f n bs =
     fieldD left plain (λ major g m cs. fieldD left plain (λ minor h k ds. brandsD (suc (length ds)) brand span false h k ds) 4 0 g m cs) 4 0 f n bs
 
-unfoldable pub openingBodyD : ℕ → Header → Flow → ℕ → List ℕ → Res Opened Flow Left
+unfoldable pub openingBodyD : ℕ → Header → Flow → ℕ → List ℕ → Res OpeningGave Flow Left
 openingBodyD brand h f n bs =
     pick (is h styp) (stypD brand (spanOf h) f n bs)
     (pick (is h sidx) (after (sidxD topmost (spanOf h) f n bs) (λ x g m cs. okay (indexed x) g m cs)) (skipTo passed (boxEnd h) f n bs))

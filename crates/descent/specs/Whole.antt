@@ -40,36 +40,36 @@ gapD offset f n bs =
     (boxesD (gapBoxes (n + offset)) (λ u h g m cs. skipTo tt (boxEnd h) g m cs) (length bs) tt f n bs)
 
 -- what an index that stands open covers: so many indexes stand open
-abbrev pub Under : Type 0
-Under = ℕ → Level → Flow → ℕ → List ℕ → Went
+abbrev pub UnderD : Type 0
+UnderD = ℕ → Level → Flow → ℕ → List ℕ → Went
 
 -- the first box of an index entry
 abbrev pub innerD : Top → Slot → ℕ → Flow → ℕ → List ℕ → Res Index Flow Left
 innerD top slot depth f n bs = boxD (innerKind top slot depth) (λ h g m cs. sidxD (under top slot depth) (spanOf h) g m cs) f n bs
 
 -- type 0 is a leaf; type 1 covers an inner index followed by all that it indexes
-unfoldable pub slotD : Under → Top → ℕ → Bool → Slot → Flow → ℕ → List ℕ → Went
+unfoldable pub slotD : UnderD → Top → ℕ → Bool → Slot → Flow → ℕ → List ℕ → Went
 slotD inner top depth true slot f n bs = after (innerD top slot depth f n bs) (λ x g m cs. inner (suc depth) (innerLevel x slot) g m cs)
 slotD inner top depth false slot f n bs =
     after (leafD (top .id) slot f n bs) (λ seen g m cs. okay tt (listed g (leafRecord slot (g .now) (seen .first)) (slot .until) (seen .last)) m cs)
 
-unfoldable pub readBackD : Under → Top → ℕ → Level → StoredEntry → Flow → ℕ → List ℕ → Went
+unfoldable pub readBackD : UnderD → Top → ℕ → Level → StoredEntry → Flow → ℕ → List ℕ → Went
 readBackD inner top depth l e f n bs =
     unless (entryFaults l e (f .now) n) (λ x. fail x (left f) (suc n)) (slotD inner top depth (e .inner) (slotOf e (f .now) n) f n bs)
 
 -- an entry is read back when its first byte comes
-unfoldable pub entryD : Under → Top → ℕ → Level → Flow → ℕ → List ℕ → Went
+unfoldable pub entryD : UnderD → Top → ℕ → Level → Flow → ℕ → List ℕ → Went
 entryD inner top depth l f n [] = cut (left f) n
 entryD inner top depth l f n (b ∷ bs) =
     readBackD inner top depth l (entryAt (f .work) (levelBytes * (depth - 1) + entryBytes * l .next)) f n (b ∷ bs)
 
 -- so many entries, end to end, in order
-unfoldable pub entriesD : Under → Top → ℕ → ℕ → Level → Flow → ℕ → List ℕ → Went
+unfoldable pub entriesD : UnderD → Top → ℕ → ℕ → Level → Flow → ℕ → List ℕ → Went
 entriesD inner top depth zero l f n bs = okay tt f n bs
 entriesD inner top depth (suc k) l f n bs = after (entryD inner top depth l f n bs) (λ u g m cs. entriesD inner top depth k (took l) g m cs)
 
 -- the entries of an index, with so many levels left; on level 5 no index is read (row 13)
-unfoldable pub underD : ℕ → Top → Under
+unfoldable pub underD : ℕ → Top → UnderD
 underD zero top depth l f n bs = cut (left f) n
 underD (suc levels) top depth l f n bs = entriesD (λ d l' g m cs. underD levels top d l' g m cs) top depth (l .count) l f n bs
 

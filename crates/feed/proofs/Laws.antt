@@ -13,7 +13,7 @@ use Rattle.state.specs.declared.State.{State}
 use Rattle.state.specs.declared.State.the-variants as state
 use Rattle.state.specs.declared.FeedAnswer.{FeedAnswer}
 use Rattle.state.specs.declared.FeedAnswer.the-variants as feeds
-use Rattle.state.specs.Step.{run}
+use Rattle.state.specs.Step.{stepAll}
 use Rattle.state.specs.Calls.{Out, out, flowOf, stateOf, workOf, tableOf, answerOf, fed, feedState, feedOf}
 use Rattle.state.specs.Ranges.{bounds, inRange, InRange}
 use Rattle.state.proofs.Jump.{passing-there, passing-limit, run-passing}
@@ -103,7 +103,7 @@ passed-taken piece s i work table k s' h r some e same =
 
 -- no bytes leave the state
 fed-none : (s : State) (work table : List ℕ) → feedState s [] work table ≡ left-with s work table
-unfolding feedState run answered stateOf workOf tableOf answerOf
+unfolding feedState stepAll answered stateOf workOf tableOf answerOf
 fed-none (state.Reading n leaves now last s) work table = refl
 fed-none (state.Ended n leaves top) work table = refl
 fed-none (state.Refused n leaves x) work table = refl

@@ -1,6 +1,6 @@
 -- The contract of `feed` itself, as the check reads it: it asks nothing, and two outcomes that it allows coincide.
 use mathlib.Core.Path.{sym, ap, _∙_}
-use Rattle.basics.specs.Outcome.{OneOutcome, after}
+use Rattle.basics.specs.Outcome.{OneOutcome, afterCall}
 use Rattle.state.specs.declared.FeedAnswer.{FeedAnswer}
 use Rattle.state.specs.Calls.{Out}
 use Rattle.feed.proofs.feed.Kinds as feed-kinds
@@ -13,6 +13,6 @@ feed-once = record {
   outcomes-coincide = λ κs given r r' left left' p q.
       let same = p .0 ∙ sym (q .0) in (
         ap (λ (o : Out FeedAnswer). record { answer = o .answer; state = o .state }) same,
-        ap (λ (o : Out FeedAnswer). after 3 feed-kinds.ps feed-kinds.r κs given (tt, (tt, (o .work, (o .table, tt))))) same,
+        ap (λ (o : Out FeedAnswer). afterCall 3 feed-kinds.ps feed-kinds.r κs given (tt, (tt, (o .work, (o .table, tt))))) same,
       );
 }

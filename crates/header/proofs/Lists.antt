@@ -5,7 +5,7 @@ use native.Mathlib.Numerals.{add-one}
 use Rattle.machine.specs.Faults.{refusal}
 use Rattle.machine.specs.Run.{bad}
 use Rattle.machine.specs.Heads.{stepHead}
-use Rattle.machine.specs.Lists.{Box, inHead, inBody, Kind, Boxes, faultsOf, liftBody, headed, stepBox, stepBoxes}
+use Rattle.machine.specs.Lists.{BoxPhase, inHead, inBody, Kind, Boxes, faultsOf, liftBody, headed, stepBox, stepBoxes}
 use Rattle.machine.specs.declared.Head.{Head}
 use Rattle.machine.specs.declared.Header.{Header}
 use Rattle.machine.proofs.Kept.{Each}
@@ -26,7 +26,7 @@ module _ {B R : Type 0} (k : Kind B R Flow Left) (h : Header) (f : Flow) (n flaw
   headed-good z = flaw-none (h .pos) _ _ (faultsOf k h f) g (sym e ∙ z)
 
 -- one byte of a list; the code counts `n + 1` bytes up to the one at hand
-module _ {A B R Q S : Type 0} (l : Boxes A B R Q Flow Left) (wrap : A → Box B → S) (a : A) (f : Flow) (n b : ℕ) where
+module _ {A B R Q S : Type 0} (l : Boxes A B R Q Flow Left) (wrap : A → BoxPhase B → S) (a : A) (f : Flow) (n b : ℕ) where
   pub head-step : (h : Head) → afterHead l wrap a (n + 1) (stepHead (l .box a .left) (l .box a .end) h f n b) ≡ stepBoxes l wrap a (inHead h) f n b
   unfolding stepBox
   head-step h = ap (λ (m : ℕ). afterHead l wrap a m (stepHead (l .box a .left) (l .box a .end) h f n b)) (add-one n)

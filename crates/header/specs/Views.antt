@@ -2,7 +2,7 @@
 use Prim.Native.Nat.{ℕ}
 use Rattle.machine.specs.Faults.{refusal}
 use Rattle.machine.specs.Run.{Sub, go, done, bad, lift}
-use Rattle.machine.specs.Lists.{Box, inHead, Boxes, liftBody, liftBox, headed}
+use Rattle.machine.specs.Lists.{BoxPhase, inHead, Boxes, liftBody, liftBox, headed}
 use Rattle.machine.specs.declared.Head.{Head}
 use Rattle.machine.specs.declared.Header.{Header}
 use Rattle.machine.specs.declared.Refusal.{Refusal}
@@ -22,7 +22,7 @@ refusalHead (heads.Taken s) = refusal 0 0
 refusalHead (heads.Bad x) = x
 
 -- The answer of a box's body, of a header that was read, and of a byte of a header, in a list: `n` bytes up to the one at hand.
-module _ {A B R Q S : Type 0} (l : Boxes A B R Q Flow Left) (wrap : A → Box B → S) (a : A) (n : ℕ) where
+module _ {A B R Q S : Type 0} (l : Boxes A B R Q Flow Left) (wrap : A → BoxPhase B → S) (a : A) (n : ℕ) where
   abbrev pub afterBody : Sub B R Flow Left → Sub S Q Flow Left
   afterBody r = liftBox l wrap a n (liftBody (l .box a) r)
 

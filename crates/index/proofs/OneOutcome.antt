@@ -3,7 +3,7 @@ use Prim.Native.Nat.{ℕ}
 use mathlib.Core.Path.{_≡_, refl, sym, ap, _∙_}
 use mathlib.Core.List.{List, []}
 use Rattle.basics.proofs.Outcomes.{left-inverse-equal}
-use Rattle.basics.specs.Outcome.{Coincide, OneOutcome, after}
+use Rattle.basics.specs.Outcome.{Coincide, OneOutcome, afterCall}
 use Rattle.machine.specs.Run.{Sub, go, done, bad}
 use Rattle.state.specs.declared.Sidx.{Sidx}
 use Rattle.state.specs.declared.Index.{Index}
@@ -53,5 +53,5 @@ index-byte-once = λ κs given r r' left left' p q.
     let held' = left' .1 .1 .1 .1 .1 .1 .0 in
     let same = left-inverse-equal seenIndex (seen-index (flowOf 0 at 0 held []) r) (seen-index (flowOf 0 at 0 held' []) r') (p 0 0 [] ∙ sym (q 0 0 [])) in (
       ap (λ (o : IndexStep × List ℕ). o .0) same,
-      ap (λ (o : IndexStep × List ℕ). after 1 byte-kinds.ps byte-kinds.r κs given (tt, (tt, (tt, (tt, (tt, (tt, (o .1, tt)))))))) same,
+      ap (λ (o : IndexStep × List ℕ). afterCall 1 byte-kinds.ps byte-kinds.r κs given (tt, (tt, (tt, (tt, (tt, (tt, (o .1, tt)))))))) same,
     )

@@ -3,9 +3,9 @@ use Prim.Native.Nat.{ℕ}
 use mathlib.Core.Path.{_≡_, refl, sym, ap, _∙_}
 use mathlib.Core.List.{List, []}
 use Rattle.basics.proofs.Outcomes.{left-inverse-equal}
-use Rattle.basics.specs.Outcome.{Coincide, after}
+use Rattle.basics.specs.Outcome.{Coincide, afterCall}
 use Rattle.machine.specs.Run.{Sub, go, done, bad}
-use Rattle.machine.specs.Lists.{Box, inHead, inBody}
+use Rattle.machine.specs.Lists.{BoxPhase, inHead, inBody}
 use Rattle.state.specs.declared.Index.{Index}
 use Rattle.state.specs.declared.InnerBox.the-variants as boxes
 use Rattle.state.specs.Flow.{Flow, Left}
@@ -18,7 +18,7 @@ use Rattle.inner.proofs.inner_byte.Kinds as byte-kinds
 use Rattle.inner.proofs.inner_byte.Reads as byte-stated
 
 -- the answer and the work area that a machine's answer is a view of
-abbrev seenInner : Sub (Box InnerBody) Index Flow Left → InnerStep × List ℕ
+abbrev seenInner : Sub (BoxPhase InnerBody) Index Flow Left → InnerStep × List ℕ
 seenInner (go (inHead h) f) = (inners.Go (boxes.Head h), f .work)
 seenInner (go (inBody s) f) = (inners.Go (boxes.Body (s .span) (s .sidx)), f .work)
 seenInner (done x f) = (inners.Done x, f .work)
@@ -38,5 +38,5 @@ inner-byte-once = λ κs given r r' left left' p q.
     let held' = left' .1 .1 .1 .1 .1 .1 .1 .0 in
     let same = left-inverse-equal seenInner (seen-inner (flowOf 0 at 0 held []) r) (seen-inner (flowOf 0 at 0 held' []) r') (p 0 0 [] ∙ sym (q 0 0 [])) in (
       ap (λ (o : InnerStep × List ℕ). o .0) same,
-      ap (λ (o : InnerStep × List ℕ). after 1 byte-kinds.ps byte-kinds.r κs given (tt, (tt, (tt, (tt, (tt, (tt, (tt, (o .1, tt))))))))) same,
+      ap (λ (o : InnerStep × List ℕ). afterCall 1 byte-kinds.ps byte-kinds.r κs given (tt, (tt, (tt, (tt, (tt, (tt, (tt, (o .1, tt))))))))) same,
     )

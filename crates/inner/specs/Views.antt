@@ -2,7 +2,7 @@
 use Prim.Native.Nat.{ℕ}
 use mathlib.Core.List.{List, _∷_}
 use Rattle.machine.specs.Run.{Sub, go, done, bad, lift}
-use Rattle.machine.specs.Lists.{Box, inHead, inBody, headed}
+use Rattle.machine.specs.Lists.{BoxPhase, inHead, inBody, headed}
 use Rattle.machine.specs.declared.Head.{Head}
 use Rattle.machine.specs.declared.Header.{Header}
 use Rattle.state.specs.declared.Span.{Span}
@@ -18,20 +18,20 @@ use Rattle.state.specs.Ranges.{Bound, below, headBounds, sidxBounds}
 use Rattle.inner.specs.declared.InnerStep.{InnerStep}
 use Rattle.inner.specs.declared.InnerStep.the-variants as inners
 
-abbrev pub boxOf : InnerBox → Box InnerBody
-boxOf (boxes.Head h) = inHead h
-boxOf (boxes.Body span s) = inBody (record { span = span; sidx = s })
+abbrev pub innerPhase : InnerBox → BoxPhase InnerBody
+innerPhase (boxes.Head h) = inHead h
+innerPhase (boxes.Body span s) = inBody (record { span = span; sidx = s })
 
-abbrev pub viewInner : Flow → InnerStep → Sub (Box InnerBody) Index Flow Left
-viewInner f (inners.Go s) = go (boxOf s) f
+abbrev pub viewInner : Flow → InnerStep → Sub (BoxPhase InnerBody) Index Flow Left
+viewInner f (inners.Go s) = go (innerPhase s) f
 viewInner f (inners.Done x) = done x f
 viewInner f (inners.Bad x) = bad x (left f)
 
 -- what the box makes of a header's answer, `m` bytes up to the one at hand, and of the index's
-abbrev pub headInner : Top → Slot → ℕ → ℕ → Sub Head Header Flow Left → Sub (Box InnerBody) Index Flow Left
+abbrev pub headInner : Top → Slot → ℕ → ℕ → Sub Head Header Flow Left → Sub (BoxPhase InnerBody) Index Flow Left
 headInner top slot depth m r = lift inHead (λ h f. headed (innerKind top slot depth) h f m) bad r
 
-abbrev pub bodyInner : Span → Sub Sidx Index Flow Left → Sub (Box InnerBody) Index Flow Left
+abbrev pub bodyInner : Span → Sub Sidx Index Flow Left → Sub (BoxPhase InnerBody) Index Flow Left
 bodyInner span r = lift inBody done bad (liftSidx span r)
 
 -- what code needs to stay inside its numbers: those of a header, and an index on level 4 at the most

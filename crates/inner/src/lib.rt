@@ -17,7 +17,7 @@ ghost use Rattle.state.specs.Calls.{flowOf};
 ghost use Rattle.header.specs.Views.{viewHead};
 ghost use Rattle.header.specs.Flaws.{flawOf};
 ghost use Rattle.index.specs.Views.{viewIndex};
-ghost use Rattle.inner.specs.Views.{boxOf, viewInner, headInner, bodyInner, boxBounds};
+ghost use Rattle.inner.specs.Views.{innerPhase, viewInner, headInner, bodyInner, boxBounds};
 use header::HeadSo;
 use header::HeadStep;
 use header::SIDX;
@@ -126,7 +126,7 @@ pub fn inner_byte(
     ensures { λ r. ⌜
         ((leaves last : ℕ) (table : List ℕ) →
         viewInner (flowOf leaves at last (now (work .exit)) table) r
-        ≡ stepBox (innerKind top slot depth) (boxOf s) (flowOf leaves at last (now (work .entry)) table) n b)
+        ≡ stepBox (innerKind top slot depth) (innerPhase s) (flowOf leaves at last (now (work .entry)) table) n b)
         ⌝ }
 {
     match s {

@@ -29,11 +29,14 @@ module _ {F L : Type 0} (left : F → L) (end : ℕ) where
   kind-run : (pos size m acc : ℕ) (f : F) (n : ℕ) (bs : List ℕ) →
       fieldD left plain (λ kind g m' cs. sizedD left end pos size kind g m' cs) (suc m) acc f n bs ≡ run left (stepHead left end) (at.Kind pos size m acc) f n bs
   unfolding stepHead
-  kind-run pos size = field-run left (stepHead left end) plain (at.Kind pos size) (λ v g m. sized left end pos size v g) (λ acc f n b. refl) (λ m acc f n b. refl) _ (λ v f n bs. sized-run pos size v f n bs)
+  kind-run pos size =
+      field-run left (stepHead left end) plain (at.Kind pos size) (λ v g m. sized left end pos size v g) (λ acc f n b. refl) (λ m acc f n b. refl) _
+      (λ v f n bs. sized-run pos size v f n bs)
 
   -- the size
   size-run : (pos m acc : ℕ) (f : F) (n : ℕ) (bs : List ℕ) →
-      fieldD left plain (λ size g m' cs. fieldD left plain (λ kind g' m'' cs'. sizedD left end pos size kind g' m'' cs') 4 0 g m' cs) (suc m) acc f n bs ≡ run left (stepHead left end) (at.Size pos m acc) f n bs
+      fieldD left plain (λ size g m' cs. fieldD left plain (λ kind g' m'' cs'. sizedD left end pos size kind g' m'' cs') 4 0 g m' cs) (suc m) acc f n bs
+      ≡ run left (stepHead left end) (at.Size pos m acc) f n bs
   unfolding stepHead contBy
   size-run pos = field-run left (stepHead left end) plain (at.Size pos) (λ v g m. go (at.Kind pos v 3 0) g) (λ acc f n b. refl) (λ m acc f n b. refl) _ (λ v f n bs. kind-run pos v 3 0 f n bs)
 

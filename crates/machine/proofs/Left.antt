@@ -8,7 +8,7 @@ use Rattle.basics.specs.Choose.{pick}
 use Rattle.machine.specs.Faults.{lowest, unless}
 use Rattle.machine.specs.Run.{Sub, go, done, bad, lift}
 use Rattle.machine.specs.Heads.{underEight, underSixteen, sized, stepHead}
-use Rattle.machine.specs.Lists.{Box, inHead, inBody, Kind, faultsOf, liftBody, headed, stepBox, Next, again, over, Boxes, goOn, stepBoxes}
+use Rattle.machine.specs.Lists.{BoxPhase, inHead, inBody, Kind, faultsOf, liftBody, headed, stepBox, Next, again, over, Boxes, goOn, stepBoxes}
 use Rattle.machine.specs.declared.Refusal.{Refusal}
 use Rattle.machine.specs.declared.Header.{Header}
 use Rattle.machine.specs.declared.Head.{Head}
@@ -84,7 +84,7 @@ module _ {B R F L : Type 0} (k : Kind B R F L) where
         lift-left (k .left) inHead (λ h' g. headed k h' g (suc n)) bad (λ h' g. headed-left h' g (suc n)) (λ x l. refl) (stepHead (k .left) (k .end) h f n b)
         ∙ head-left (k .left) (k .end) h f n b
 
-module _ {A B R Q F L S : Type 0} (l : Boxes A B R Q F L) (wrap : A → Box B → S) where
+module _ {A B R Q F L S : Type 0} (l : Boxes A B R Q F L) (wrap : A → BoxPhase B → S) where
   -- what follows a box leaves everything
   pub goes-on-left : (next : Next A Q) (f : F) → leftIn (l .kept) (goOn l wrap next f) ≡ l .kept f
   unfolding goOn leftIn
@@ -92,7 +92,7 @@ module _ {A B R Q F L S : Type 0} (l : Boxes A B R Q F L) (wrap : A → Box B �
   goes-on-left (over q xs) f = unless-left (l .kept) xs f (done q f) refl
 
   -- a list of boxes leaves what the box leaves
-  pub boxes-left : (a : A) (s : Box B) (f : F) (n b : ℕ) → leftIn (l .kept) (stepBoxes l wrap a s f n b) ≡ leftIn (l .kept) (stepBox (l .box a) s f n b)
+  pub boxes-left : (a : A) (s : BoxPhase B) (f : F) (n b : ℕ) → leftIn (l .kept) (stepBoxes l wrap a s f n b) ≡ leftIn (l .kept) (stepBox (l .box a) s f n b)
   unfolding leftIn
   boxes-left a s f n b =
       lift-left (l .kept) (wrap a) (λ r g. goOn l wrap (l .close a r g (suc n)) g) (λ x kept. bad (lowest x (l .beside a kept (suc n))) kept)

@@ -7,7 +7,7 @@ use lib.ListN.{length}
 use Rattle.machine.specs.Faults.{unless, lowest}
 use Rattle.machine.specs.Run.{Sub, done, bad, Res, fail, either, after, contBy, run, cont}
 use Rattle.machine.specs.Heads.{stepHead}
-use Rattle.machine.specs.Lists.{Box, inHead, inBody, Kind, faultsOf, liftBody, headed, stepBox, boxD, Next, again, over, Boxes, goOn, stepBoxes, goOnD, boxesD}
+use Rattle.machine.specs.Lists.{BoxPhase, inHead, inBody, Kind, faultsOf, liftBody, headed, stepBox, boxD, Next, again, over, Boxes, goOn, stepBoxes, goOnD, boxesD}
 use Rattle.machine.specs.declared.Header.{Header}
 use Rattle.machine.specs.declared.Head.the-variants as at
 use Rattle.machine.proofs.Faults.{unless-both}
@@ -38,8 +38,8 @@ module _ {B R F L : Type 0} (k : Kind B R F L) (bodyD : Header → F → ℕ →
       ∙ sym (inside-run (k .left) (stepHead (k .left) (k .end)) (stepBox k) inHead (λ m h g. headed k h g m) (λ s g m b. refl) at.First f n bs)
 
 -- A list, for any machine that has the list's equation, given that its boxes leave what the list leaves, and the law of each body.
-module _ {A B R Q F L S : Type 0} (l : Boxes A B R Q F L) (wrap : A → Box B → S) (step : S → F → ℕ → ℕ → Sub S Q F L)
-    (steps : (a : A) (s : Box B) (f : F) (n b : ℕ) → step (wrap a s) f n b ≡ stepBoxes l wrap a s f n b)
+module _ {A B R Q F L S : Type 0} (l : Boxes A B R Q F L) (wrap : A → BoxPhase B → S) (step : S → F → ℕ → ℕ → Sub S Q F L)
+    (steps : (a : A) (s : BoxPhase B) (f : F) (n b : ℕ) → step (wrap a s) f n b ≡ stepBoxes l wrap a s f n b)
     (lefts : (a : A) → l .box a .left ≡ l .kept)
     (bodyD : A → Header → F → ℕ → List ℕ → Res R F L)
     (law : (a : A) (h : Header) (f : F) (n : ℕ) (bs : List ℕ) → bodyD a h f n bs ≡ cont (l .kept) (l .box a .body) n bs (l .box a .begin h f n)) where

@@ -7,7 +7,7 @@ use borrow.Author.Tests.{ltb-false}
 use Rattle.machine.specs.Faults.{shows, unless}
 use Rattle.machine.specs.Run.{Sub, go, done, bad, lift}
 use Rattle.machine.specs.Heads.{boxEnd, sizeFaults, stepHead}
-use Rattle.machine.specs.Lists.{Box, inHead, inBody, Kind, faultsOf, liftBody, headed, stepBox, Next, again, over, Boxes, goOn, stepBoxes}
+use Rattle.machine.specs.Lists.{BoxPhase, inHead, inBody, Kind, faultsOf, liftBody, headed, stepBox, Next, again, over, Boxes, goOn, stepBoxes}
 use Rattle.machine.specs.declared.Refusal.{Refusal}
 use Rattle.machine.specs.declared.Header.{Header}
 use Rattle.machine.specs.declared.Head.{Head}
@@ -43,7 +43,7 @@ ends-within : (end : ℕ) (h : Header) → sizeFaults end h ≡ [] → boxEnd h 
 ends-within end h e = ltb-false end (boxEnd h) (shows-none (ltb end (boxEnd h)) 5 (h .pos) (none-second (shows (ltb (h .size) (h .head)) 4 (h .pos)) _ e))
 
 -- A box: what its body keeps, and of its header nothing.
-abbrev pub InBox : {B F : Type 0} → (B → F → Type 0) → Box B → F → Type 0
+abbrev pub InBox : {B F : Type 0} → (B → F → Type 0) → BoxPhase B → F → Type 0
 InBox P (inHead h) f = Unit {0}
 InBox P (inBody s) f = P s f
 
@@ -56,7 +56,7 @@ module _ {B R F L : Type 0} (k : Kind B R F L) (P P' : B → F → Type 0) (D : 
       unless-unrefused (InBox P') D (faultsOf k h f) (k .left f) (liftBody k (k .begin h f (suc n)))
       (λ e. lift-unrefused P' D (InBox P') D inBody done (λ x l. x) (k .begin h f (suc n)) (λ s g z. z) (λ q g z. z) (begins h f (ends-within (k .end) h (none-first _ _ e))))
 
-  pub box-unrefused : (s : Box B) (f : F) (b : ℕ) → InBox P s f → Unrefused (InBox P') D (stepBox k s f n b)
+  pub box-unrefused : (s : BoxPhase B) (f : F) (b : ℕ) → InBox P s f → Unrefused (InBox P') D (stepBox k s f n b)
   unfolding stepBox
   box-unrefused (inHead h) f b z =
       let r : Sub Head Header F L = stepHead (k .left) (k .end) h f n b in
@@ -69,31 +69,31 @@ abbrev pub Over : {A Q F : Type 0} → (Q → F → Type 0) → F → Next A Q �
 Over E f (again a xs) = Unit {0}
 Over E f (over q xs) = E q f
 
-module _ {A B R Q F L S : Type 0} (l : Boxes A B R Q F L) (wrap : A → Box B → S) (P : B → F → Type 0) (D : R → F → Type 0) (P' : S → F → Type 0) (E : Q → F → Type 0)
+module _ {A B R Q F L S : Type 0} (l : Boxes A B R Q F L) (wrap : A → BoxPhase B → S) (P : B → F → Type 0) (D : R → F → Type 0) (P' : S → F → Type 0) (E : Q → F → Type 0)
     (heads : (a : A) (h : Head) (f : F) → P' (wrap a (inHead h)) f) (inners : (a : A) (s : B) (f : F) → P s f → P' (wrap a (inBody s)) f) where
   goes-on : (x : Next A Q) (f : F) → Over E f x → Unrefused P' E (goOn l wrap x f)
   unfolding goOn
   goes-on (again a xs) f z = unless-unrefused P' E xs (l .kept f) (go (wrap a (inHead at.First)) f) (λ e. heads a at.First f)
   goes-on (over q xs) f z = unless-unrefused P' E xs (l .kept f) (done q f) (λ e. z)
 
-  wraps : (a : A) (s : Box B) (f : F) → InBox P s f → P' (wrap a s) f
+  wraps : (a : A) (s : BoxPhase B) (f : F) → InBox P s f → P' (wrap a s) f
   wraps a (inHead h) f z = heads a h f
   wraps a (inBody s) f z = inners a s f z
 
-  pub boxes-unrefused : (a : A) (s : Box B) (f : F) (n b : ℕ) → ((r : R) (g : F) → D r g → Over E g (l .close a r g (suc n))) → Unrefused (InBox P) D (stepBox (l .box a) s f n b) →
+  pub boxes-unrefused : (a : A) (s : BoxPhase B) (f : F) (n b : ℕ) → ((r : R) (g : F) → D r g → Over E g (l .close a r g (suc n))) → Unrefused (InBox P) D (stepBox (l .box a) s f n b) →
       Unrefused P' E (stepBoxes l wrap a s f n b)
   boxes-unrefused a s f n b closes z =
       lift-kept (InBox P) D (λ x kept. Unit {0}) P' E (λ x kept. Unit {0}) (wrap a) (λ r g. goOn l wrap (l .close a r g (suc n)) g) _ (stepBox (l .box a) s f n b)
       (wraps a) (λ r g y. goes-on (l .close a r g (suc n)) g (closes r g y)) (λ x kept y. tt) z
 
 -- any list of boxes, where it is over
-any-box : {B R F L : Type 0} (r : Sub (Box B) R F L) → Unrefused (InBox Any) Any r
+any-box : {B R F L : Type 0} (r : Sub (BoxPhase B) R F L) → Unrefused (InBox Any) Any r
 any-box (go (inHead h) f) = tt
 any-box (go (inBody s) f) = tt
 any-box (done q f) = tt
 any-box (bad x l) = tt
 
-pub boxes-over : {A B R Q F L S : Type 0} (l : Boxes A B R Q F L) (wrap : A → Box B → S) (E : Q → F → Type 0) (a : A) (s : Box B) (f : F) (n b : ℕ) →
+pub boxes-over : {A B R Q F L S : Type 0} (l : Boxes A B R Q F L) (wrap : A → BoxPhase B → S) (E : Q → F → Type 0) (a : A) (s : BoxPhase B) (f : F) (n b : ℕ) →
     ((r : R) (g : F) → Over E g (l .close a r g (suc n))) → Unrefused Any E (stepBoxes l wrap a s f n b)
 boxes-over l wrap E a s f n b closes =
     boxes-unrefused l wrap Any Any Any E (λ a' h g. tt) (λ a' s' g z. tt) a s f n b (λ r g z. closes r g) (any-box (stepBox (l .box a) s f n b))

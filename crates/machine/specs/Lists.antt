@@ -10,9 +10,9 @@ use Rattle.machine.specs.declared.Head.{Head}
 use Rattle.machine.specs.declared.Head.the-variants as at
 
 -- A box: in its header, or in its body.
-pub data Box (B : Type 0) : Type 0 where
-  inHead : Head → Box B
-  inBody : B → Box B
+pub data BoxPhase (B : Type 0) : Type 0 where
+  inHead : Head → BoxPhase B
+  inBody : B → BoxPhase B
 
 -- What a kind of box is: where its container ends, the faults that its header shows at that place, and how its body begins.
 pub record Kind (B R F L : Type 0) : Type 0 where
@@ -26,14 +26,14 @@ module _ {B R F L : Type 0} (k : Kind B R F L) where
   abbrev pub faultsOf : Header → F → List Refusal
   faultsOf h f = sizeFaults (k .end) h ++ k .shown h f
 
-  abbrev pub liftBody : Sub B R F L → Sub (Box B) R F L
+  abbrev pub liftBody : Sub B R F L → Sub (BoxPhase B) R F L
   liftBody r = lift inBody done bad r
 
   -- the header is read: `n` bytes up to its last
-  unfoldable pub headed : Header → F → ℕ → Sub (Box B) R F L
+  unfoldable pub headed : Header → F → ℕ → Sub (BoxPhase B) R F L
   headed h f n = unless (faultsOf h f) (λ x. bad x (k .left f)) (liftBody (k .begin h f n))
 
-  unfoldable pub stepBox : Box B → F → ℕ → ℕ → Sub (Box B) R F L
+  unfoldable pub stepBox : BoxPhase B → F → ℕ → ℕ → Sub (BoxPhase B) R F L
   stepBox (inHead h) f n b = lift inHead (λ h' g. headed h' g (suc n)) bad (stepHead (k .left) (k .end) h f n b)
   stepBox (inBody s) f n b = liftBody (k .body s f n b)
 
@@ -55,16 +55,16 @@ pub record Boxes (A B R Q F L : Type 0) : Type 0 where
   pub close : A → R → F → ℕ → Next A Q
   pub beside : A → L → ℕ → List Refusal
 
-module _ {A B R Q F L S : Type 0} (l : Boxes A B R Q F L) (wrap : A → Box B → S) where
+module _ {A B R Q F L S : Type 0} (l : Boxes A B R Q F L) (wrap : A → BoxPhase B → S) where
   unfoldable pub goOn : Next A Q → F → Sub S Q F L
   goOn (again a xs) f = unless xs (λ x. bad x (l .kept f)) (go (wrap a (inHead at.First)) f)
   goOn (over q xs) f = unless xs (λ x. bad x (l .kept f)) (done q f)
 
   -- a machine for one box inside the list: `n` bytes up to the one at hand
-  abbrev pub liftBox : A → ℕ → Sub (Box B) R F L → Sub S Q F L
+  abbrev pub liftBox : A → ℕ → Sub (BoxPhase B) R F L → Sub S Q F L
   liftBox a n r = lift (wrap a) (λ r' f. goOn (l .close a r' f n) f) (λ x kept. bad (lowest x (l .beside a kept n)) kept) r
 
-  abbrev pub stepBoxes : A → Box B → F → ℕ → ℕ → Sub S Q F L
+  abbrev pub stepBoxes : A → BoxPhase B → F → ℕ → ℕ → Sub S Q F L
   stepBoxes a s f n b = liftBox a (suc n) (stepBox (l .box a) s f n b)
 
 -- by structure, given what the body of a box is; a box takes bytes, so that as many turns as there are bytes are enough

@@ -23,7 +23,7 @@ use Rattle.state.specs.Calls.{flowOf}
 use Rattle.state.specs.Stages.{follow, topOf, topLevel, indexEnds, leafRecord, wrapInner, liftLeaf, liftInner}
 use Rattle.leaf.specs.Leaf.{viewLeaf}
 use Rattle.leaf.specs.declared.LeafStep.the-variants as leaves
-use Rattle.inner.specs.Views.{boxOf, viewInner}
+use Rattle.inner.specs.Views.{innerPhase, viewInner}
 use Rattle.inner.specs.declared.InnerStep.{InnerStep}
 use Rattle.inner.specs.declared.InnerStep.the-variants as innerStep
 use Rattle.next_stage.specs.declared.Running.{Running}
@@ -52,7 +52,7 @@ module _ (top : Top) (ls : Levels) (slot : Slot) (r : Running) (work table : Lis
       e
       ∙ ap (λ (k : ℕ). follow top ls (flowOf k (slot .until) (seen .last) work (putRecord table (r .leaves) (leafRecord slot (r .now) (seen .first))))) (add-one (r .leaves))
 
-pub wrap-box : (s : InnerBox) → wrapInner (boxOf s) ≡ s
+pub wrap-box : (s : InnerBox) → wrapInner (innerPhase s) ≡ s
 wrap-box (inners.Head h) = refl
 wrap-box (inners.Body span s) = refl
 

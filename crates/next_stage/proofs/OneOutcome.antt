@@ -3,7 +3,7 @@
 use mathlib.Core.Path.{refl, sym, ap, _∙_}
 use mathlib.Core.List.{List, []}
 use Prim.Native.Nat.{ℕ}
-use Rattle.basics.specs.Outcome.{OneOutcome, Coincide, after}
+use Rattle.basics.specs.Outcome.{OneOutcome, Coincide, afterCall}
 use Rattle.next_stage.proofs.ReadBack.{one-step}
 use Rattle.next_stage.proofs.opening_after.Kinds as opening-after-kinds
 use Rattle.next_stage.proofs.opening_after.Reads as opening-after-stated
@@ -30,7 +30,7 @@ gap-after-once = record {
 -- of one count of leaves, slot, time, answer of a leaf and table: one table after the call, number by number
 pub record-after-once : Coincide 1 record-after-kinds.ps record-after-kinds.r record-after-stated.Post
 record-after-once κs given r r' left left' p q =
-    (refl, ap (λ (t : List ℕ). after 1 record-after-kinds.ps record-after-kinds.r κs given (tt, (tt, (tt, (tt, (t, tt)))))) (p ∙ sym q))
+    (refl, ap (λ (t : List ℕ). afterCall 1 record-after-kinds.ps record-after-kinds.r κs given (tt, (tt, (tt, (tt, (t, tt)))))) (p ∙ sym q))
 
 -- of one top index, open indexes, slot, what flows and one answer of a leaf: one step
 pub leaf-after-once : Coincide 0 leaf-after-kinds.ps leaf-after-kinds.r leaf-after-stated.Post

@@ -17,5 +17,5 @@ nextPlace none more = 0
 nextPlace (some i) more = nextByte i more
 
 -- the number at hand, told in the code's words
-abbrev pub told : {S : Type 0} → Number S → AtHand
-told x = record { more = x .more; acc = x .acc; stored = isStored (x .place); place = nextPlace (x .place) (x .more) }
+abbrev pub atHandOf : {S : Type 0} → Number S → AtHand
+atHandOf x = record { more = x .more; acc = x .acc; stored = isStored (x .place); place = nextPlace (x .place) (x .more) }

@@ -25,7 +25,7 @@ ghost use Rattle.state.specs.Numbers.{headNumber, sidxNumber, trafNumber, moofN
 ghost use Rattle.state.specs.declared.Stage.the-variants as stage;
 ghost use Rattle.state.specs.Ranges.{Within, sidxBounds, openingBounds, innerBounds, stageBounds};
 ghost use Rattle.index.specs.Views.{placeOf, Shallow};
-ghost use Rattle.number_at_hand.specs.Views.{told};
+ghost use Rattle.number_at_hand.specs.Views.{atHandOf};
 
 // The number at hand: so many bytes follow its next one, those before it spell `acc`, and where they are stored, its next one goes
 // to `place`.
@@ -50,7 +50,7 @@ fn unstored(more: u64, acc: u64) -> AtHand
 
 // The number at hand, at each level; and, by `.._again`, what holds it with another `more` and `acc`.
 fn head_number(h: Head) -> AtHand
-    ensures { λ r. ⌜ r ≡ told (headNumber h) ⌝ }
+    ensures { λ r. ⌜ r ≡ atHandOf (headNumber h) ⌝ }
 {
     match h {
         Head::First => unstored(0, 0),
@@ -107,7 +107,7 @@ fn head_again(h: Head, more: u64, acc: u64) -> Head
 
 fn sidx_number(p: Where, s: Sidx) -> AtHand
     requires { ⌜ Shallow p × Within (sidxBounds s) ⌝ }
-    ensures { λ r. ⌜ r ≡ told (sidxNumber (placeOf p) s) ⌝ }
+    ensures { λ r. ⌜ r ≡ atHandOf (sidxNumber (placeOf p) s) ⌝ }
 {
     match s {
         Sidx::Field {
@@ -163,7 +163,7 @@ fn sidx_again(s: Sidx, more: u64, acc: u64) -> Sidx
 }
 
 fn traf_number(s: TrafBoxes) -> AtHand
-    ensures { λ r. ⌜ r ≡ told (trafNumber s) ⌝ }
+    ensures { λ r. ⌜ r ≡ atHandOf (trafNumber s) ⌝ }
 {
     match s {
         TrafBoxes::Head(_, h) => head_number(h),
@@ -199,7 +199,7 @@ fn traf_again(s: TrafBoxes, more: u64, acc: u64) -> TrafBoxes
 }
 
 fn moof_number(s: MoofBoxes) -> AtHand
-    ensures { λ r. ⌜ r ≡ told (moofNumber s) ⌝ }
+    ensures { λ r. ⌜ r ≡ atHandOf (moofNumber s) ⌝ }
 {
     match s {
         MoofBoxes::Head(_, h) => head_number(h),
@@ -226,7 +226,7 @@ fn moof_again(s: MoofBoxes, more: u64, acc: u64) -> MoofBoxes
 }
 
 fn leaf_number(s: LeafBoxes) -> AtHand
-    ensures { λ r. ⌜ r ≡ told (leafNumber s) ⌝ }
+    ensures { λ r. ⌜ r ≡ atHandOf (leafNumber s) ⌝ }
 {
     match s {
         LeafBoxes::Head(_, h) => head_number(h),
@@ -257,7 +257,7 @@ fn leaf_again(s: LeafBoxes, more: u64, acc: u64) -> LeafBoxes
 
 fn opening_number(s: OpeningBoxes) -> AtHand
     requires { ⌜ Within (openingBounds s) ⌝ }
-    ensures { λ r. ⌜ r ≡ told (openingNumber s) ⌝ }
+    ensures { λ r. ⌜ r ≡ atHandOf (openingNumber s) ⌝ }
 {
     match s {
         OpeningBoxes::Head(_, h) => head_number(h),
@@ -307,7 +307,7 @@ fn opening_again(s: OpeningBoxes, more: u64, acc: u64) -> OpeningBoxes
 }
 
 fn gap_number(s: GapBoxes) -> AtHand
-    ensures { λ r. ⌜ r ≡ told (gapNumber s) ⌝ }
+    ensures { λ r. ⌜ r ≡ atHandOf (gapNumber s) ⌝ }
 {
     match s {
         GapBoxes::Head(h) => head_number(h),
@@ -326,7 +326,7 @@ fn gap_again(s: GapBoxes, more: u64, acc: u64) -> GapBoxes
 
 fn inner_number(top: Top, ls: Levels, slot: Slot, s: InnerBox) -> AtHand
     requires { ⌜ Within (innerBounds ls s) ⌝ }
-    ensures { λ r. ⌜ r ≡ told (innerNumber top ls slot s) ⌝ }
+    ensures { λ r. ⌜ r ≡ atHandOf (innerNumber top ls slot s) ⌝ }
 {
     match s {
         InnerBox::Head(h) => head_number(h),
@@ -346,7 +346,7 @@ fn inner_again(s: InnerBox, more: u64, acc: u64) -> InnerBox
 // The number at hand. `now` is asked for only by the contract: the ranges of a stage speak of it.
 pub fn stage_number(s: Stage, now: u64) -> AtHand
     requires { ⌜ Within (stageBounds s now) ⌝ }
-    ensures { λ r. ⌜ r ≡ told (stageNumber s) ⌝ }
+    ensures { λ r. ⌜ r ≡ atHandOf (stageNumber s) ⌝ }
 {
     match s {
         Stage::Opening { brand: _, boxes } => opening_number(boxes),

@@ -3,7 +3,7 @@ use Prim.Native.Nat.{ℕ}
 use mathlib.Core.Path.{_≡_, refl, sym, ap, _∙_}
 use mathlib.Core.List.{List, []}
 use Rattle.basics.proofs.Outcomes.{left-inverse-equal}
-use Rattle.basics.specs.Outcome.{Coincide, after}
+use Rattle.basics.specs.Outcome.{Coincide, afterCall}
 use Rattle.machine.specs.Run.{Sub, go, done, bad}
 use Rattle.state.specs.declared.Index.{Index}
 use Rattle.state.specs.declared.GapBoxes.{GapBoxes}
@@ -54,5 +54,5 @@ opening-byte-once = λ κs given r r' left left' p q.
     let held' = left' .1 .1 .1 .1 .0 in
     let same = left-inverse-equal seenOpening (seen-opening (flowOf 0 0 0 held []) r) (seen-opening (flowOf 0 0 0 held' []) r') (p 0 0 0 [] ∙ sym (q 0 0 0 [])) in (
       ap (λ (o : OpeningStep × List ℕ). o .0) same,
-      ap (λ (o : OpeningStep × List ℕ). after 1 opening-kinds.ps opening-kinds.r κs given (tt, (tt, (tt, (tt, (o .1, tt)))))) same,
+      ap (λ (o : OpeningStep × List ℕ). afterCall 1 opening-kinds.ps opening-kinds.r κs given (tt, (tt, (tt, (tt, (o .1, tt)))))) same,
     )

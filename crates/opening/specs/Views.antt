@@ -10,7 +10,7 @@ use Rattle.state.specs.declared.Index.{Index}
 use Rattle.state.specs.declared.OpeningBody.{OpeningBody}
 use Rattle.header.specs.Views.{afterHead, afterBody}
 use Rattle.state.specs.Flow.{Flow, Left, left}
-use Rattle.state.specs.Opening.{Opened, opening, wrapOpening}
+use Rattle.state.specs.Opening.{OpeningGave, opening, wrapOpening}
 use Rattle.state.specs.Stages.{gapBoxes, wrapGap}
 use Rattle.opening.specs.declared.GapStep.{GapStep}
 use Rattle.opening.specs.declared.GapStep.the-variants as gaps
@@ -39,5 +39,5 @@ bodyGap end m r = afterBody (gapBoxes end) wrapGap tt m r
 abbrev pub headOpening : ℕ → Bool → ℕ → Sub Head Header Flow Left → Sub OpeningBoxes Index Flow Left
 headOpening brand branded m r = afterHead (opening brand) wrapOpening branded m r
 
-abbrev pub bodyOpening : ℕ → Bool → ℕ → Sub OpeningBody Opened Flow Left → Sub OpeningBoxes Index Flow Left
+abbrev pub bodyOpening : ℕ → Bool → ℕ → Sub OpeningBody OpeningGave Flow Left → Sub OpeningBoxes Index Flow Left
 bodyOpening brand branded m r = afterBody (opening brand) wrapOpening branded m r

@@ -42,10 +42,10 @@ unfoldable pub theTree : Unit {0}
 unfolding
     Bytes.numberFrom
     Choose.pick Choose.andThen
-    Boxes.among Boxes.field Boxes.words Boxes.boxOf Boxes.firstBox Boxes.cut Boxes.only Boxes.without Boxes.stypBrands
+    Boxes.among Boxes.field Boxes.words Boxes.boxOf Boxes.firstBox Boxes.cutBoxes Boxes.only Boxes.without Boxes.stypBrands
     Boxes.entryOf Boxes.entriesOf Boxes.sizes Boxes.durations Boxes.timeBytes Boxes.sidxIndex Boxes.tfhdTrack Boxes.tfdtTime
-    Leaves.moofFirst Leaves.leafBoxes Leaves.headAndTime Leaves.trafTimes Leaves.gather Leaves.moofTimes Leaves.nonEmpty Leaves.leafTimes Leaves.neverFall
-    Tree.openIndex Tree.firstIndex Tree.topIndex Tree.gapBoxes Tree.material Tree.firstTime Tree.entryParts Tree.tile Tree.suitsEntry Tree.innerIndex Tree.underIndex Tree.timesIn Tree.leavesIn
+    Leaves.moofFirst Leaves.boxesOfLeaf Leaves.headAndTime Leaves.trafTimes Leaves.gather Leaves.moofTimes Leaves.nonEmpty Leaves.leafTimes Leaves.neverFall
+    Tree.openIndex Tree.firstIndex Tree.topIndex Tree.boxesOfGap Tree.material Tree.firstTime Tree.entryParts Tree.tile Tree.suitsEntry Tree.innerIndex Tree.underIndex Tree.timesIn Tree.leavesIn
     Tree.segmentParts Tree.segment
 theTree = tt
 
@@ -59,7 +59,7 @@ unfolding
     Lists.headed Lists.stepBox Lists.goOn
     Run.lift
     Calls.stateOf Calls.workOf Calls.tableOf Calls.answerOf Calls.feedState Calls.feedOf Calls.finishState Calls.finishOf Calls.finishAfter
-    Flow.room Flow.putAll Flow.listed
+    Put.putAll Table.room Flow.listed
     StepLeaf.seenNow StepLeaf.beginMoof StepLeaf.stepMoofBody StepLeaf.moofNext StepLeaf.stepMoof
     StepLeaf.beginLeaf StepLeaf.stepLeafBody StepLeaf.leafNow StepLeaf.leafLacks StepLeaf.leafNext StepLeaf.stepLeaf
     Levels.entryAt Levels.inmost Levels.depth Levels.tookEntry Levels.push Levels.stillOne Levels.stillTwo Levels.stillThree Levels.stillOpen Levels.altered
@@ -71,7 +71,7 @@ unfolding
     StepSidx.partOf StepSidx.sidxVersionFaults StepSidx.idFaults StepSidx.scaleFaults StepSidx.timeFaults
     StepSidx.offsetFaults StepSidx.countFaults StepSidx.sumFaults StepSidx.wideMore StepSidx.closeSidx StepSidx.fieldEnds StepSidx.entryEnds StepSidx.wordPlace StepSidx.stepSidx
     Stages.gapNext Stages.stepGap Stages.indexEnds Stages.onward Stages.stepSlot Stages.stepEntry Stages.stepStage
-    Step.settle Step.step Step.run
+    Step.settle Step.step Step.stepAll
     Traf.tfdtVersionFaults Traf.reference Traf.fallFaults Traf.trafEnds Traf.beginTraf Traf.stepTrafBody Traf.saw Traf.trafNow Traf.lacking Traf.trafNext Traf.stepTraf
 theBytes = tt
 

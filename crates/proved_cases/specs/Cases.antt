@@ -61,8 +61,8 @@ acceptedState count leaves = state.Accepted count (length leaves) (record { id =
 abbrev pub accepted : ℕ → List Leaf → List ℕ → Out FinishAnswer
 accepted count leaves work = out (finishes.Listed (length leaves)) (acceptedState count leaves) work (tableWith leaves)
 
-abbrev pub refused : Refusal → ℕ → List Leaf → List ℕ → Out FinishAnswer
-refused x count leaves work = out (finishes.Refused x) (state.Refused count (length leaves) x) work (tableWith leaves)
+abbrev pub refusedWith : Refusal → ℕ → List Leaf → List ℕ → Out FinishAnswer
+refusedWith x count leaves work = out (finishes.Refused x) (state.Refused count (length leaves) x) work (tableWith leaves)
 
 -- These bytes, so many, are accepted: the tree gives these leaves; byte definition and descent answer how many they are, and leave the
 -- accepted state, this work area, and the leaves in the table.
@@ -77,8 +77,8 @@ pub record IsAccepted (bytes : List ℕ) (count : ℕ) (leaves : List Leaf) (wor
 pub record IsRefused (bytes : List ℕ) (count : ℕ) (x : Refusal) (read : ℕ) (leaves : List Leaf) (work : List ℕ) : Type 0 where
   pub counted : length bytes ≡ count
   pub tree : byTree bytes ≡ none
-  pub fed : byBytes bytes ≡ refused x read leaves work
-  pub descended : byDescent bytes ≡ refused x read leaves work
+  pub fed : byBytes bytes ≡ refusedWith x read leaves work
+  pub descended : byDescent bytes ≡ refusedWith x read leaves work
 
 -- the leaves of S
 abbrev pub firstOfS : Leaf

@@ -4,7 +4,7 @@ use Prim.Native.Nat.{ℕ}
 use mathlib.Core.Path.{refl, sym, ap, _∙_}
 use mathlib.Core.List.{List}
 use lib.ListN.{replicate, length-replicate}
-use Rattle.basics.specs.Outcome.{OneOutcome, Coincide, after}
+use Rattle.basics.specs.Outcome.{OneOutcome, Coincide, afterCall}
 use Rattle.records.proofs.no_room.Kinds as no-room-kinds
 use Rattle.records.proofs.no_room.Reads as no-room-stated
 use Rattle.records.proofs.numbers_of.Kinds as numbers-of-kinds
@@ -34,7 +34,7 @@ numbers-of-once = record {
 -- of one table, count of leaves and record: one table after the call, number by number
 pub put-record-once : Coincide 1 put-record-kinds.ps put-record-kinds.r put-record-stated.Post
 put-record-once κs given r r' left left' p q =
-    (refl, ap (λ (t : List ℕ). after 1 put-record-kinds.ps put-record-kinds.r κs given (t, (tt, (tt, tt)))) (p ∙ sym q))
+    (refl, ap (λ (t : List ℕ). afterCall 1 put-record-kinds.ps put-record-kinds.r κs given (t, (tt, (tt, tt)))) (p ∙ sym q))
 
 -- of one table and place: one record
 pub record-at-once : Coincide 1 record-at-kinds.ps record-at-kinds.r record-at-stated.Post

@@ -12,7 +12,7 @@ use Rattle.basics.specs.Choose.{andThen}
 use Rattle.basics.proofs.Picks.{lt-or-ge}
 use Rattle.basics.proofs.Options.{then-inv, pick-some, pick-else}
 use Rattle.segment.specs.Constants.{entryBytes, typeBit, mostEntries}
-use Rattle.segment.specs.Boxes.{provided, unless, field, Entry, entryOf, entriesOf, sizes, Index, sidxIndex}
+use Rattle.segment.specs.Boxes.{provided, except, field, Entry, entryOf, entriesOf, sizes, Index, sidxIndex}
 use Rattle.segment.specs.Tree.{Leaf, leavesIn, segment}
 use Rattle.segment.proofs.Stands.{top-stands, parts-made, parts-listed}
 use Rattle.segment.proofs.Tiles.{Fact, Grows, made-by}
@@ -59,9 +59,9 @@ sized-some (e ∷ es) any sized = let first = sized .0 in omega arith
 
 -- the count is not 0, and there are so many entries
 counted-entries : (id scale time offset count : ℕ) (rest : List ℕ) (i : Index) →
-    unless (eqb scale 0)
-    (unless (eqb count 0)
-    (unless (ltb mostEntries count)
+    except (eqb scale 0)
+    (except (eqb count 0)
+    (except (ltb mostEntries count)
     (provided (eqb (length rest) (entryBytes * count))
     (andThen (entriesOf count rest) (λ entries. some (record { id = id; scale = scale; time = time; offset = offset; entries = entries })))))) ≡ some i →
     0 < sizes (i .entries)

@@ -15,9 +15,9 @@ use Rattle.basics.specs.Bytes.{number}
 use Rattle.basics.proofs.Picks.{pick-yes, pick-no}
 use Rattle.basics.proofs.Options.{then-inv, pick-some, pick-else}
 use Rattle.segment.specs.Constants.{styp, sidx, moof, mdat, tfhd, tfdt, tfad}
-use Rattle.segment.specs.Boxes.{unless, among, Field, field, words, Box, firstBox, boxes, topKinds, only, without, stypBrands, tfhdTrack, tfdtTime}
-use Rattle.segment.specs.Leaves.{moofFirst, leafBoxes, headAndTime, trafTimes, moofTimes, gather, nonEmpty, leafTimes, neverFall}
-use Rattle.segment.specs.Tree.{Opened, openIndex, firstIndex, topIndex, gapBoxes, material, firstTime}
+use Rattle.segment.specs.Boxes.{except, among, Field, field, words, Box, firstBox, boxes, topKinds, only, without, stypBrands, tfhdTrack, tfdtTime}
+use Rattle.segment.specs.Leaves.{moofFirst, boxesOfLeaf, headAndTime, trafTimes, moofTimes, gather, nonEmpty, leafTimes, neverFall}
+use Rattle.segment.specs.Tree.{Opened, openIndex, firstIndex, topIndex, boxesOfGap, material, firstTime}
 use Rattle.segment.specs.Parts.{At, One, Stands}
 use Rattle.segment.proofs.Said.{field-says, first-box, opened-box, material-place}
 
@@ -118,8 +118,8 @@ pub record LeafHolds (bs : List Box) : Type 0 where
   pub none : (i : ℕ) (b : Box) → At bs i b → (b .kind ≢ styp) × (b .kind ≢ sidx)
   pub before : (j : ℕ) (b : Box) → At bs j b → b .kind ≡ mdat → MoofBefore bs j
 
-pub leaf-holds : (xs : List ℕ) (bs : List Box) → leafBoxes xs ≡ some bs → (boxes xs ≡ some bs) × LeafHolds bs
-unfolding leafBoxes
+pub leaf-holds : (xs : List ℕ) (bs : List Box) → boxesOfLeaf xs ≡ some bs → (boxes xs ≡ some bs) × LeafHolds bs
+unfolding boxesOfLeaf
 leaf-holds xs bs e =
     let (cs, whole, e1) = then-inv (boxes xs) _ bs e in
     let (clean, e2) = pick-some _ _ bs e1 in
@@ -134,8 +134,8 @@ leaf-holds xs bs e =
     )
 
 -- and whole boxes of which that holds are a leaf's
-pub leaf-accepts : (xs : List ℕ) (bs : List Box) → boxes xs ≡ some bs → LeafHolds bs → leafBoxes xs ≡ some bs
-unfolding leafBoxes andThen pick among
+pub leaf-accepts : (xs : List ℕ) (bs : List Box) → boxes xs ≡ some bs → LeafHolds bs → boxesOfLeaf xs ≡ some bs
+unfolding boxesOfLeaf andThen pick among
 leaf-accepts xs bs whole holds =
     rw (whole, without-holds (styp ∷ sidx ∷ []) bs (λ i b there. let (a, c) = holds .none i b there in rw (ne-eqb (b .kind) styp a, ne-eqb (b .kind) sidx c)), moof-first bs (holds .before))
 
@@ -337,7 +337,7 @@ times-fall-never ts = (never-falls 0 ts, falls-never 0 ts (λ j t there. omega a
 pub leaf-timed : (track : ℕ) (xs ts : List ℕ) → leafTimes track xs ≡ some ts → (t : ℕ) × At ts 0 t × (firstTime ts ≡ t)
 unfolding leafTimes nonEmpty firstTime
 leaf-timed track xs ts e =
-    let (bs, whole, e1) = then-inv (leafBoxes xs) _ ts e in
+    let (bs, whole, e1) = then-inv (boxesOfLeaf xs) _ ts e in
     let (us, gathered, e2) = then-inv (gather moof (moofTimes track) bs) nonEmpty ts e1 in
     at us e2
   where
@@ -447,7 +447,7 @@ first-index (suc k) xs top e =
     let (b, first, e1) = then-inv (firstBox xs) _ top e in
     at b first (eqb (b .kind) sidx) refl e1 (first-index k (drop (b .size) xs) top)
   where
-    at : (b : Box) → firstBox xs ≡ some b → (t : Bool) → eqb (b .kind) sidx ≡ t → pick t (openIndex b xs) (unless (among (b .kind) topKinds) (firstIndex k (drop (b .size) xs))) ≡ some top →
+    at : (b : Box) → firstBox xs ≡ some b → (t : Bool) → eqb (b .kind) sidx ≡ t → pick t (openIndex b xs) (except (among (b .kind) topKinds) (firstIndex k (drop (b .size) xs))) ≡ some top →
         (firstIndex k (drop (b .size) xs) ≡ some top → Indexed (drop (b .size) xs) top) → Indexed xs top
     at b first true is e' more = here xs b top first (eqb-true (b .kind) sidx is) e'
     at b first false is e' more =
@@ -502,7 +502,7 @@ brand-compatible brand xs top e =
 -- Rule 1. In the gap of first-offset bytes after the top index stand whole boxes, and each is skipped.
 pub gap-skipped : (top : Opened) (ys : List ℕ) → material top ≡ some ys →
     (gap : List Box) × (boxes (take (top .index .offset) (top .rest)) ≡ some gap) × ((i : ℕ) (b : Box) → At gap i b → Skipped b)
-unfolding gapBoxes
+unfolding boxesOfGap
 gap-skipped top ys e =
     let (fits, rest, (gap, e1)) = material-place top ys e in
     let (bs, whole, e2) = then-inv (boxes (take (top .index .offset) (top .rest))) _ gap e1 in

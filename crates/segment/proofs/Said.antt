@@ -17,7 +17,7 @@ use Rattle.basics.proofs.Options.{then-inv, pick-some, pick-else}
 use Rattle.basics.proofs.Tests.{and-both}
 use Rattle.segment.specs.Constants.{sidx}
 use Rattle.segment.specs.Boxes.{Field, field, Box, boxOf, firstBox, sizes, durations, sidxIndex}
-use Rattle.segment.specs.Tree.{Opened, openIndex, gapBoxes, material, suitsEntry, innerIndex}
+use Rattle.segment.specs.Tree.{Opened, openIndex, boxesOfGap, material, suitsEntry, innerIndex}
 
 -- what follows an answer
 pub then-goes : {A B : Type 0} (o : Option A) (k : A → Option B) (a : A) → o ≡ some a → andThen o k ≡ k a
@@ -217,7 +217,7 @@ opened-box b xs o e =
 -- segment: `rest` is what follows the box of the top index. The gap before it is whole boxes that are skipped.
 pub material-place : (top : Opened) (ys : List ℕ) → material top ≡ some ys →
     (length (top .rest) ≡ top .index .offset + sizes (top .index .entries)) × (drop (top .index .offset) (top .rest) ≡ ys)
-    × ((gap : List Box) × (gapBoxes (take (top .index .offset) (top .rest)) ≡ some gap))
+    × ((gap : List Box) × (boxesOfGap (take (top .index .offset) (top .rest)) ≡ some gap))
 unfolding material
 material-place top ys e =
     let (fits, e') = pick-some _ _ ys e in

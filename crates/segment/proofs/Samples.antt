@@ -74,10 +74,10 @@ unfolding
     two four boxOf box entry sidxBody wideBody stypBox oneEntry trafOf leaf chain
     Bytes.numberFrom
     Choose.pick Choose.andThen
-    Boxes.among Boxes.field Boxes.words Boxes.boxOf Boxes.firstBox Boxes.cut Boxes.only Boxes.without Boxes.stypBrands
+    Boxes.among Boxes.field Boxes.words Boxes.boxOf Boxes.firstBox Boxes.cutBoxes Boxes.only Boxes.without Boxes.stypBrands
     Boxes.entryOf Boxes.entriesOf Boxes.sizes Boxes.durations Boxes.timeBytes Boxes.sidxIndex Boxes.tfhdTrack Boxes.tfdtTime
-    Leaves.moofFirst Leaves.leafBoxes Leaves.headAndTime Leaves.trafTimes Leaves.gather Leaves.moofTimes Leaves.nonEmpty Leaves.leafTimes Leaves.neverFall
-    Tree.openIndex Tree.firstIndex Tree.topIndex Tree.gapBoxes Tree.material Tree.firstTime Tree.entryParts Tree.tile Tree.suitsEntry Tree.innerIndex Tree.underIndex Tree.timesIn Tree.leavesIn
+    Leaves.moofFirst Leaves.boxesOfLeaf Leaves.headAndTime Leaves.trafTimes Leaves.gather Leaves.moofTimes Leaves.nonEmpty Leaves.leafTimes Leaves.neverFall
+    Tree.openIndex Tree.firstIndex Tree.topIndex Tree.boxesOfGap Tree.material Tree.firstTime Tree.entryParts Tree.tile Tree.suitsEntry Tree.innerIndex Tree.underIndex Tree.timesIn Tree.leavesIn
     Tree.segmentParts Tree.segment
 theSamples = tt
 

@@ -14,8 +14,8 @@ use Rattle.segment.specs.Constants.{entryBytes, typeBit, mostEntries, st
 abbrev pub provided : {A : Type 0} → Bool → Option A → Option A
 provided test answer = pick test answer none
 
-abbrev pub unless : {A : Type 0} → Bool → Option A → Option A
-unless test answer = pick test none answer
+abbrev pub except : {A : Type 0} → Bool → Option A → Option A
+except test answer = pick test none answer
 
 -- a number is in a list
 unfoldable pub among : ℕ → List ℕ → Bool
@@ -28,7 +28,7 @@ pub record Field : Type 0 where
   pub rest : List ℕ
 
 unfoldable pub field : ℕ → List ℕ → Option Field
-field width xs = unless (ltb (length xs) width) (some (record { value = number (take width xs); rest = drop width xs }))
+field width xs = except (ltb (length xs) width) (some (record { value = number (take width xs); rest = drop width xs }))
 
 -- A box: its type, its size with the header, and its body.
 pub record Box : Type 0 where
@@ -39,8 +39,8 @@ pub record Box : Type 0 where
 -- Sizes count the header. A box ends within the bytes that it stands in.
 unfoldable pub boxOf : ℕ → ℕ → ℕ → List ℕ → Option Box
 boxOf header size kind xs =
-    unless (ltb size header)
-    (unless (ltb (length xs) (size - header))
+    except (ltb size header)
+    (except (ltb (length xs) (size - header))
     (some (record { kind = kind; size = size; body = take (size - header) xs })))
 
 -- The box that bytes start with: a 32-bit size and a type. Size 1 means that a 64-bit size follows the type.
@@ -53,14 +53,14 @@ firstBox xs =
     (boxOf shortHeader (size .value) (kind .value) (kind .rest))))
 
 -- A list of boxes: all the bytes, cut into whole boxes.
-unfoldable pub cut : ℕ → List ℕ → Option (List Box)
-cut zero [] = some []
-cut zero (x ∷ xs) = none
-cut (suc k) [] = some []
-cut (suc k) (x ∷ xs) = andThen (firstBox (x ∷ xs)) (λ b. andThen (cut k (drop (b .size) (x ∷ xs))) (λ bs. some (b ∷ bs)))
+unfoldable pub cutBoxes : ℕ → List ℕ → Option (List Box)
+cutBoxes zero [] = some []
+cutBoxes zero (x ∷ xs) = none
+cutBoxes (suc k) [] = some []
+cutBoxes (suc k) (x ∷ xs) = andThen (firstBox (x ∷ xs)) (λ b. andThen (cutBoxes k (drop (b .size) (x ∷ xs))) (λ bs. some (b ∷ bs)))
 
 abbrev pub boxes : List ℕ → Option (List Box)
-boxes xs = cut (length xs) xs
+boxes xs = cutBoxes (length xs) xs
 
 -- `styp`, `sidx`, `moof`, `mdat` are known at the top level: boxes of other types are skipped there.
 abbrev pub topKinds : List ℕ
@@ -101,7 +101,7 @@ entryOf xs =
     andThen (field 4 xs) (λ first.
     andThen (field 4 (first .rest)) (λ duration.
     andThen (field 4 (duration .rest)) (λ sap.
-    unless (eqb (first .value % typeBit) 0)
+    except (eqb (first .value % typeBit) 0)
     (some (record { kind = first .value / typeBit; size = first .value % typeBit; duration = duration .value; sap = sap .value })))))
 
 unfoldable pub entriesOf : ℕ → List ℕ → Option (List Entry)
@@ -141,9 +141,9 @@ sidxIndex body =
     andThen (field width (time .rest)) (λ offset.
     andThen (field 2 (offset .rest)) (λ reserved.
     andThen (field 2 (reserved .rest)) (λ count.
-    unless (eqb (scale .value) 0)
-    (unless (eqb (count .value) 0)
-    (unless (ltb mostEntries (count .value))
+    except (eqb (scale .value) 0)
+    (except (eqb (count .value) 0)
+    (except (ltb mostEntries (count .value))
     (provided (eqb (length (count .rest)) (entryBytes * count .value))
     (andThen (entriesOf (count .value) (count .rest)) (λ entries.
     some (record { id = id .value; scale = scale .value; time = time .value; offset = offset .value; entries = entries })))))))))))))))

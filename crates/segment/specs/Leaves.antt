@@ -14,8 +14,8 @@ moofFirst [] = true
 moofFirst (b ∷ bs) = pick (eqb (b .kind) moof) true (pick (eqb (b .kind) mdat) false (moofFirst bs))
 
 -- Rule 5. A leaf is whole boxes, without `styp` or `sidx`, with a `moof` before any `mdat`.
-unfoldable pub leafBoxes : List ℕ → Option (List Box)
-leafBoxes xs = andThen (boxes xs) (λ bs. provided (without (styp ∷ sidx ∷ []) bs) (provided (moofFirst bs) (some bs)))
+unfoldable pub boxesOfLeaf : List ℕ → Option (List Box)
+boxesOfLeaf xs = andThen (boxes xs) (λ bs. provided (without (styp ∷ sidx ∷ []) bs) (provided (moofFirst bs) (some bs)))
 
 -- Rule 6. A `traf` has one `tfhd`, then one `tfdt`, and no `tfad`. Its decode time counts where its track is the reference track.
 unfoldable pub headAndTime : ℕ → List Box → Option (List ℕ)
@@ -49,7 +49,7 @@ nonEmpty (t ∷ ts) = some (t ∷ ts)
 
 -- Rule 6. The decode times of the reference track in a leaf: at least one.
 unfoldable pub leafTimes : ℕ → List ℕ → Option (List ℕ)
-leafTimes track xs = andThen (leafBoxes xs) (λ bs. andThen (gather moof (moofTimes track) bs) nonEmpty)
+leafTimes track xs = andThen (boxesOfLeaf xs) (λ bs. andThen (gather moof (moofTimes track) bs) nonEmpty)
 
 -- Rule 6. Decode times never fall.
 unfoldable pub neverFall : ℕ → List ℕ → Bool

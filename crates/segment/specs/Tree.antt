@@ -16,7 +16,7 @@ use lib.Dec.{eqb, ltb, leb}
 use lib.ListN.{length, take, drop}
 use Rattle.basics.specs.Choose.{pick, andThen}
 use Rattle.segment.specs.Constants.{limit, timeLimit, levels, styp, sidx}
-use Rattle.segment.specs.Boxes.{provided, unless, among, Box, topKinds, firstBox, boxes, without, stypBrands, Entry, sizes, durations, Index, sidxIndex}
+use Rattle.segment.specs.Boxes.{provided, except, among, Box, topKinds, firstBox, boxes, without, stypBrands, Entry, sizes, durations, Index, sidxIndex}
 use Rattle.segment.specs.Leaves.{leafTimes, neverFall}
 
 -- the box of an index, the index that its body says, and the bytes after the box
@@ -34,7 +34,7 @@ firstIndex zero xs = none
 firstIndex (suc k) xs =
     andThen (firstBox xs) (λ b.
     pick (eqb (b .kind) sidx) (openIndex b xs)
-    (unless (among (b .kind) topKinds) (firstIndex k (drop (b .size) xs))))
+    (except (among (b .kind) topKinds) (firstIndex k (drop (b .size) xs))))
 
 -- Rule 1. The first box is `styp`, with the brand wanted among the compatible ones. Then comes the top index.
 unfoldable pub topIndex : ℕ → List ℕ → Option Opened
@@ -46,15 +46,15 @@ topIndex brand xs =
     (firstIndex (length xs) (drop (b .size) xs)))))
 
 -- Rule 1. Only skipped boxes stand in the gap.
-unfoldable pub gapBoxes : List ℕ → Option (List Box)
-gapBoxes xs = andThen (boxes xs) (λ bs. provided (without topKinds bs) (some bs))
+unfoldable pub boxesOfGap : List ℕ → Option (List Box)
+boxesOfGap xs = andThen (boxes xs) (λ bs. provided (without topKinds bs) (some bs))
 
 -- Rule 2. The material starts at the end of the top index plus its first offset, is as long as the sum of its entry sizes, and ends the
 -- segment.
 unfoldable pub material : Opened → Option (List ℕ)
 material top =
     provided (eqb (length (top .rest)) (top .index .offset + sizes (top .index .entries)))
-    (andThen (gapBoxes (take (top .index .offset) (top .rest))) (λ gap.
+    (andThen (boxesOfGap (take (top .index .offset) (top .rest))) (λ gap.
     some (drop (top .index .offset) (top .rest))))
 
 -- A leaf: position, size, start, duration, SAP word, first decode time of the reference track.
@@ -143,7 +143,7 @@ leavesIn (indexPart position size ∷ ps) = leavesIn ps
 -- and its start plus durations is below `timeLimit`.
 unfoldable pub segmentParts : ℕ → List ℕ → Option (List Part)
 segmentParts brand xs =
-    unless (ltb limit (length xs))
+    except (ltb limit (length xs))
     (andThen (topIndex brand xs) (λ top.
     provided (ltb (top .index .time + durations (top .index .entries)) timeLimit)
     (andThen (material top) (λ ys.

@@ -19,7 +19,7 @@ use Rattle.state.specs.declared.Stage.{Stage}
 use Rattle.state.specs.declared.State.{State}
 use Rattle.state.specs.declared.State.the-variants as state
 use Rattle.basics.specs.Put.{putAll}
-use Rattle.state.specs.Step.{run}
+use Rattle.state.specs.Step.{stepAll}
 use Rattle.state.specs.Calls.{Out, flowOf, stateOf, fed, feedState}
 use Rattle.state.specs.Numbers.{stageNumber, stageOn, workOn, putIn, Short, Fits}
 use Rattle.state.specs.Ranges.{Within, InRange, spelled, bounds, stageBounds}
@@ -32,7 +32,7 @@ use Rattle.state.proofs.RangeTests.{spelled-within}
 use Rattle.state.proofs.Ranges.{feed-state-kept}
 use Rattle.state.proofs.State.{the-type}
 use Rattle.number_at_hand.specs.declared.AtHand.{AtHand}
-use Rattle.number_at_hand.specs.Views.{isStored, nextPlace, told}
+use Rattle.number_at_hand.specs.Views.{isStored, nextPlace, atHandOf}
 use Rattle.spelling.specs.Together.{Taken, taken, together, togetherNow, spelledOn}
 
 -- none of them is the last, they are there, and the count stays within the limit
@@ -68,7 +68,7 @@ others-stay (state.Refused n leaves x) piece i work e = refl
 others-stay (state.Accepted n leaves top) piece i work e = refl
 
 -- The stage whose number is told as `x`, and `k` of its bytes.
-module _ (s : Stage) (x : AtHand) (k : ℕ) (piece : List ℕ) (i : ℕ) (work : List ℕ) (e : x ≡ told (stageNumber s)) where
+module _ (s : Stage) (x : AtHand) (k : ℕ) (piece : List ℕ) (i : ℕ) (work : List ℕ) (e : x ≡ atHandOf (stageNumber s)) where
   pub acc-fits : Fits (stageNumber s) → k ≤ x .more → Within (spelled 7 k (x .acc))
   acc-fits fits most =
       let w : Within (spelled 7 (x .more) (x .acc)) = rw e (fits .0) in
@@ -107,7 +107,7 @@ module _ (s : Stage) (n leaves now last : ℕ) (r : InRange (state.Reading n lea
       ap fed (sym (number-taken k piece i n s (flowOf leaves now last work table) there low most (stage-fits s now (r .1 .1) .1)))
 
   number-inside : (k : ℕ) (bytes : List ℕ) → length bytes ≡ k → AllBytes bytes → k ≤ stageNumber s .more → n + k ≤ limit → InRange (after k bytes)
-  unfolding feedState run stateOf after
+  unfolding feedState stepAll stateOf after
   number-inside k bytes e all most low =
       let a : take k bytes ≡ bytes = take-all k bytes (omega (arith, e)) in
       let b : drop (0 + k) bytes ≡ [] = drop-of-length-le bytes {i = 0 + k} (omega (arith, e)) in
@@ -162,7 +162,7 @@ module _ {q : State} {n leaves now last : ℕ} {s : Stage} (same : q ≡ state.R
   unfolding bounds
   count-inside = inside .0
 
-  module _ (piece : List ℕ) (i : ℕ) (work : List ℕ) {x : AtHand} {k : ℕ} (ex : x ≡ told (stageNumber s)) (ek : k ≡ together (x .more) (length piece - i - 1) n) where
+  module _ (piece : List ℕ) (i : ℕ) (work : List ℕ) {x : AtHand} {k : ℕ} (ex : x ≡ atHandOf (stageNumber s)) (ek : k ≡ together (x .more) (length piece - i - 1) n) where
     as-defined : k ≡ togetherNow s n piece i
     as-defined = rw (ek, ex) refl
 
@@ -173,7 +173,7 @@ module _ {q : State} {n leaves now last : ℕ} {s : Stage} (same : q ≡ state.R
     place-fits h = omega (arith, h, as-defined, together-rest (stageNumber s .more) (length piece - i - 1) n)
 
     pub number-fits : i < length piece → workBytes ≤ length work →
-        (x ≡ told (stageNumber s)) × Fits (stageNumber s) × (k ≤ x .more) × (i + k ≤ length piece) × (workBytes ≤ length work)
+        (x ≡ atHandOf (stageNumber s)) × Fits (stageNumber s) × (k ≤ x .more) × (i + k ≤ length piece) × (workBytes ≤ length work)
     number-fits h long =
         (ex, stage-fits s now stage-inside, rw ek (together-more (x .more) (length piece - i - 1) n), omega (arith, place-fits h), long)
 

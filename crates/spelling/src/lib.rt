@@ -17,7 +17,7 @@ ghost use Rattle.state.specs.Flow.{workBytes};
 ghost use Rattle.basics.specs.Put.{putAll};
 ghost use Rattle.state.specs.Numbers.{stageNumber, stageOn, workOn, Fits};
 ghost use Rattle.state.specs.Ranges.{Within, InRange, spelled as spelledBounds};
-ghost use Rattle.number_at_hand.specs.Views.{told};
+ghost use Rattle.number_at_hand.specs.Views.{atHandOf};
 ghost use Rattle.spelling.specs.Together.{taken, together, spelledOn};
 
 // A state, and how many bytes of the piece are taken before it.
@@ -64,7 +64,7 @@ fn stored_of(x: AtHand, k: u64) -> u64
 
 // The stage after `k` bytes of its number, none of them the last.
 fn stage_on(s: Stage, x: AtHand, k: u64, piece: &[u8], i: usize, work: &mut [u8]) -> Stage
-    requires { ⌜ (x ≡ told (stageNumber s)) × Fits (stageNumber s) × (k ≤ x .more) × (i + k ≤ length (now piece)) × (workBytes ≤ length (now work)) ⌝ }
+    requires { ⌜ (x ≡ atHandOf (stageNumber s)) × Fits (stageNumber s) × (k ≤ x .more) × (i + k ≤ length (now piece)) × (workBytes ≤ length (now work)) ⌝ }
     ensures { λ r. ⌜ (r ≡ stageOn s k (take k (drop i (now (piece .entry))))) × (now (work .exit) ≡ workOn s (now (work .entry)) (take k (drop i (now (piece .entry))))) ⌝ }
 {
     let acc = spell_bytes(x.acc, piece, i, k as usize);

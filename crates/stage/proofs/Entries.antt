@@ -23,7 +23,7 @@ use Rattle.state.specs.Leaf.{leafSo0}
 use Rattle.state.specs.Levels.{entryAt, entryPlace, inmost, depth, tookEntry}
 use Rattle.state.specs.Ranges.{atMost, below, Within, openingBounds, gapBounds, topBounds, levelBounds, levelsBounds, slotBounds, innerBounds, leafBounds, headBounds, stageBounds}
 use Rattle.state.specs.Stages.{innerKind, liftInner, stepSlot, stepEntry, stepStage}
-use Rattle.inner.specs.Views.{boxOf, viewInner, boxBounds}
+use Rattle.inner.specs.Views.{innerPhase, viewInner, boxBounds}
 use Rattle.inner.specs.declared.InnerStep.{InnerStep}
 use Rattle.state.specs.Calls.{flowOf}
 use Rattle.state.specs.declared.OpeningBoxes.{OpeningBoxes}
@@ -43,10 +43,10 @@ inner-within ls d (inners.Head h) e w = w
 inner-within ls d (inners.Body span s) e w = rw e w
 
 module _ (top : Top) (ls : Levels) (f : Flow) (n b : ℕ) where
-  pub inner-step : (slot : Slot) (d : ℕ) (s : InnerBox) → d ≡ depth ls → liftInner top ls slot (stepBox (innerKind top slot d) (boxOf s) f n b) ≡ stepStage (stage.Inner top ls slot s) f n b
+  pub inner-step : (slot : Slot) (d : ℕ) (s : InnerBox) → d ≡ depth ls → liftInner top ls slot (stepBox (innerKind top slot d) (innerPhase s) f n b) ≡ stepStage (stage.Inner top ls slot s) f n b
   unfolding stepStage
-  inner-step slot d (inners.Head h) e = ap (λ (k : ℕ). liftInner top ls slot (stepBox (innerKind top slot k) (boxOf (inners.Head h)) f n b)) e
-  inner-step slot d (inners.Body span s) e = ap (λ (k : ℕ). liftInner top ls slot (stepBox (innerKind top slot k) (boxOf (inners.Body span s)) f n b)) e
+  inner-step slot d (inners.Head h) e = ap (λ (k : ℕ). liftInner top ls slot (stepBox (innerKind top slot k) (innerPhase (inners.Head h)) f n b)) e
+  inner-step slot d (inners.Body span s) e = ap (λ (k : ℕ). liftInner top ls slot (stepBox (innerKind top slot k) (innerPhase (inners.Body span s)) f n b)) e
 
 -- what an entry read back comes to, by whether it was altered
 pub chosen : (t i inner : Bool) (s slot : Slot) → pick t read.Altered (read.Stands i s) ≡ read.Stands inner slot → (t ≡ false) × (i ≡ inner) × (s ≡ slot)
@@ -86,7 +86,7 @@ inner-first ls = tt
 module _ (top : Top) (ls : Levels) (slot : Slot) where
   pub inner-law : (r : Running) (s : InnerBox) (n b d : ℕ) (work work' : List ℕ) (q : InnerStep) (p : StageStep) → d ≡ depth ls →
       ((w t : List ℕ) → viewStage (r .leaves) w t p ≡ liftInner top ls slot (viewInner (flowing r w t) q)) →
-      ((leaves last : ℕ) (table : List ℕ) → viewInner (flowOf leaves (r .now) last work' table) q ≡ stepBox (innerKind top slot d) (boxOf s) (flowOf leaves (r .now) last work table) n b) →
+      ((leaves last : ℕ) (table : List ℕ) → viewInner (flowOf leaves (r .now) last work' table) q ≡ stepBox (innerKind top slot d) (innerPhase s) (flowOf leaves (r .now) last work table) n b) →
       (table : List ℕ) → viewStage (r .leaves) work' table p ≡ stepStage (stage.Inner top ls slot s) (flowing r work table) n b
   inner-law r s n b d work work' q p e k l table =
       k work' table ∙ ap (liftInner top ls slot) (l (r .leaves) (r .last) table) ∙ inner-step top ls (flowing r work table) n b slot d s e

@@ -2,7 +2,7 @@
 use mathlib.Core.Path.{ap₂}
 use mathlib.Core.List.{List}
 use Prim.Native.Nat.{ℕ}
-use Rattle.basics.specs.Outcome.{Coincide, after}
+use Rattle.basics.specs.Outcome.{Coincide, afterCall}
 use Rattle.next_stage.proofs.ReadBack.{one-step, one-work, one-table}
 use Rattle.stage.proofs.stage_byte.Kinds as kinds
 use Rattle.stage.proofs.stage_byte.Reads as stated
@@ -11,7 +11,7 @@ use Rattle.stage.proofs.stage_byte.Reads as stated
 pub stage-byte-once : Coincide 2 kinds.ps kinds.r stated.Post
 stage-byte-once κs given r r' left left' p q = (
   one-step _ _ _ _ _ r r' _ p q,
-  ap₂ (λ (work table : List ℕ). after 2 kinds.ps kinds.r κs given (tt, (tt, (tt, (tt, (work, (table, tt)))))))
+  ap₂ (λ (work table : List ℕ). afterCall 2 kinds.ps kinds.r κs given (tt, (tt, (tt, (tt, (work, (table, tt)))))))
       (one-work _ _ _ _ _ r r' _ p q)
       (one-table _ _ _ _ _ r r' _ p q),
 )

@@ -17,7 +17,7 @@ use Rattle.state.specs.declared.FeedAnswer.{FeedAnswer}
 use Rattle.state.specs.declared.FeedAnswer.the-variants as feeds
 use Rattle.state.specs.Flow.{Flow, Left}
 use Rattle.state.specs.Stages.{stepStage}
-use Rattle.state.specs.Step.{World, reading, ended, refused, settle, pastLimit, step, run}
+use Rattle.state.specs.Step.{World, reading, ended, refused, settle, pastLimit, step, stepAll}
 use Rattle.state.specs.Calls.{Out, flowOf, leftOf, stateOf, answerOf, countOf, startOf, feedState, feedOf}
 use Rattle.state.specs.Parts.{held, feedHeld, feedAll, joined}
 use Rattle.state.proofs.Cuts.{run-refused, cutting-then}
@@ -46,8 +46,8 @@ answer-count (ended m top kept) n e = cc
 answer-count (refused m x kept) n e = let z : _≡_ {A = ℕ} 0 1 = cc in absurd (omega arith)
 
 -- bytes that are read raise the count, each by one
-read-count : (w : World) (bs : List ℕ) (n : ℕ) → answerOf (run w bs) ≡ feeds.Read n → n ≡ count w + length bs
-unfolding run step countOf stateOf answerOf
+read-count : (w : World) (bs : List ℕ) (n : ℕ) → answerOf (stepAll w bs) ≡ feeds.Read n → n ≡ count w + length bs
+unfolding stepAll step countOf stateOf answerOf
 read-count w [] n e = let c : count w ≡ n = answer-count w n e in omega arith
 read-count (reading m s f) (b ∷ bs) n e =
     let c : count (step (reading m s f) b) ≡ suc m = unless-count (pastLimit m) _ _ (suc m) (λ x. refl) (settle-count (suc m) (stepStage s f m b)) in
@@ -65,10 +65,10 @@ state-counts : (s : State) (piece work table : List ℕ) (n : ℕ) → feedState
 unfolding feedState countOf stateOf
 state-counts (state.Reading m leaves now last s) piece work table n e =
     let w : World = reading m s (flowOf leaves now last work table) in
-    record { answers = read-count w piece n e; counts = answer-count (run w piece) n e }
+    record { answers = read-count w piece n e; counts = answer-count (stepAll w piece) n e }
 state-counts (state.Ended m leaves top) piece work table n e =
     let w : World = ended m top (leftOf leaves work table) in
-    record { answers = read-count w piece n e; counts = answer-count (run w piece) n e }
+    record { answers = read-count w piece n e; counts = answer-count (stepAll w piece) n e }
 state-counts (state.Refused m leaves x) piece work table n e = let z : _≡_ {A = ℕ} 0 1 = cc in absurd (omega arith)
 state-counts (state.Accepted m leaves top) piece work table n e = let z : _≡_ {A = ℕ} 0 1 = cc in absurd (omega arith)
 

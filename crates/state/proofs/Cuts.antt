@@ -19,7 +19,7 @@ use Rattle.state.specs.declared.State.the-variants as state
 use Rattle.state.specs.declared.FeedAnswer.{FeedAnswer}
 use Rattle.state.specs.declared.FeedAnswer.the-variants as feeds
 use Rattle.state.specs.Flow.{Left, workBytes}
-use Rattle.state.specs.Step.{World, reading, ended, refused, step, run}
+use Rattle.state.specs.Step.{World, reading, ended, refused, step, stepAll}
 use Rattle.state.specs.Ranges.{inRange}
 use Rattle.state.specs.Calls.{Out, out, flowOf, leftOf, fed, stateOf, workOf, tableOf, answerOf, feedState, feedOf}
 use Rattle.state.specs.Named.{worldOf}
@@ -31,14 +31,14 @@ use Rattle.state.proofs.Ranges.{feed-in-range}
 -- Run.
 
 -- bytes after bytes
-pub run-join : (w : World) (xs ys : List ℕ) → run w (xs ++ ys) ≡ run (run w xs) ys
-unfolding run
+pub run-join : (w : World) (xs ys : List ℕ) → stepAll w (xs ++ ys) ≡ stepAll (stepAll w xs) ys
+unfolding stepAll
 run-join w [] ys = refl
 run-join w (x ∷ xs) ys = run-join (step w x) xs ys
 
 -- a refusal stays
-pub run-refused : (bs : List ℕ) (n : ℕ) (x : Refusal) (kept : Left) → run (refused n x kept) bs ≡ refused n x kept
-unfolding run step
+pub run-refused : (bs : List ℕ) (n : ℕ) (x : Refusal) (kept : Left) → stepAll (refused n x kept) bs ≡ refused n x kept
+unfolding stepAll step
 run-refused [] n x kept = refl
 run-refused (b ∷ bs) n x kept = run-refused bs n x kept
 
@@ -63,7 +63,7 @@ back-state (state.Refused n leaves x) work table w e =
 back-state (state.Accepted n leaves top) work table w e = let z : _≡_ {A = ℕ} 0 1 = cc in absurd (omega arith)
 
 -- feeding a reading's state, with its buffers, reads on
-pub fed-again : (w : World) (piece : List ℕ) → feedState (stateOf w) piece (workOf w) (tableOf w) ≡ fed (run w piece)
+pub fed-again : (w : World) (piece : List ℕ) → feedState (stateOf w) piece (workOf w) (tableOf w) ≡ fed (stepAll w piece)
 unfolding feedState stateOf workOf tableOf answerOf
 fed-again (reading n s f) piece = refl
 fed-again (ended n top kept) piece = refl
@@ -79,15 +79,15 @@ stateNext o piece = feedState (o .state) piece (o .work) (o .table)
 pub state-join : (s : State) (xs ys work table : List ℕ) → feedState s (xs ++ ys) work table ≡ stateNext (feedState s xs work table) ys
 unfolding feedState
 state-join (state.Reading n leaves now last s) xs ys work table =
-    let w : World = reading n s (flowOf leaves now last work table) in ap fed (run-join w xs ys) ∙ sym (fed-again (run w xs) ys)
+    let w : World = reading n s (flowOf leaves now last work table) in ap fed (run-join w xs ys) ∙ sym (fed-again (stepAll w xs) ys)
 state-join (state.Ended n leaves top) xs ys work table =
-    let w : World = ended n top (leftOf leaves work table) in ap fed (run-join w xs ys) ∙ sym (fed-again (run w xs) ys)
+    let w : World = ended n top (leftOf leaves work table) in ap fed (run-join w xs ys) ∙ sym (fed-again (stepAll w xs) ys)
 state-join (state.Refused n leaves x) xs ys work table = refl
 state-join (state.Accepted n leaves top) xs ys work table = refl
 
 -- no bytes
 pub state-none : (s : State) (work table : List ℕ) → (feedState s [] work table .state ≡ s) × (feedState s [] work table .work ≡ work) × (feedState s [] work table .table ≡ table)
-unfolding feedState run stateOf workOf tableOf
+unfolding feedState stepAll stateOf workOf tableOf
 state-none (state.Reading n leaves now last s) work table = (refl, refl, refl)
 state-none (state.Ended n leaves top) work table = (refl, refl, refl)
 state-none (state.Refused n leaves x) work table = (refl, refl, refl)

@@ -84,9 +84,9 @@ use Rattle.state.specs.declared.StoredEntry.{StoredEntry}
 use Rattle.state.specs.Stages.{gapKind, gapBoxes, wrapGap, stepGap, onward, follow, topOf, topLevel, indexEnds, InnerBody, innerKind, innerLevel, stepInner, leafRecord, liftLeaf, stepInLeaf}
 use Rattle.state.specs.Stages.{stepSlot, stepEntry, stepStage}
 use Rattle.state.specs.Places.{sidxByte, openingBodyByte, openingByte, stageByte, storedAt}
-use Rattle.state.specs.Step.{World, reading, ended, refused, settle, overLimit, leftOver, step, run}
+use Rattle.state.specs.Step.{World, reading, ended, refused, settle, overLimit, leftOver, step, stepAll}
 use Rattle.state.specs.Calls.{Out, out, flowOf, leftOf, fed, stateOf, workOf, tableOf, feedState, feedOf}
-use Rattle.state.specs.Named.{entryByte, storedFrom, Spared, worldOf, leavesOf, leavesIn, Grown}
+use Rattle.state.specs.Named.{entryByte, storedFrom, Spared, worldOf, leavesOf, leavesHeld, Grown}
 
 -- Inside a leaf nothing is stored and nothing listed.
 
@@ -460,35 +460,35 @@ work-other w b i h = ap (λ (l : List ℕ). getD l i 0) (work-step w b) ∙ stor
 
 -- Run: many bytes.
 
-pub work-length-run : (bs : List ℕ) (w : World) → length (workOf (run w bs)) ≡ length (workOf w)
-unfolding run
+pub work-length-run : (bs : List ℕ) (w : World) → length (workOf (stepAll w bs)) ≡ length (workOf w)
+unfolding stepAll
 work-length-run [] w = refl
 work-length-run (b ∷ bs) w = work-length-run bs (step w b) ∙ work-length w b
 
 -- each byte is stored at its place, if it has one
-pub work-run : (bs : List ℕ) (w : World) → workOf (run w bs) ≡ storedFrom w bs (workOf w)
-unfolding run storedFrom
+pub work-run : (bs : List ℕ) (w : World) → workOf (stepAll w bs) ≡ storedFrom w bs (workOf w)
+unfolding stepAll storedFrom
 work-run [] w = refl
 work-run (b ∷ bs) w = work-run bs (step w b) ∙ ap (storedFrom (step w b) bs) (work-step w b)
 
 -- and where none is stored a place stays
-pub spared-run : (bs : List ℕ) (w : World) (i : ℕ) → Spared w bs i → getD (workOf (run w bs)) i 0 ≡ getD (workOf w) i 0
-unfolding run
+pub spared-run : (bs : List ℕ) (w : World) (i : ℕ) → Spared w bs i → getD (workOf (stepAll w bs)) i 0 ≡ getD (workOf w) i 0
+unfolding stepAll
 spared-run [] w i h = refl
 spared-run (b ∷ bs) w i h = spared-run bs (step w b) i (h .1) ∙ work-other w b i (h .0)
 
-pub table-run : (bs : List ℕ) (w : World) → Grown (leavesOf w) (tableOf w) (leavesOf (run w bs)) (tableOf (run w bs))
-unfolding run
+pub table-run : (bs : List ℕ) (w : World) → Grown (leavesOf w) (tableOf w) (leavesOf (stepAll w bs)) (tableOf (stepAll w bs))
+unfolding stepAll
 table-run [] w = grown-same (leavesOf w) (tableOf w)
 table-run (b ∷ bs) w = grown-twice (leavesOf w) (tableOf w) _ _ _ _ (table-step w b) (table-run bs (step w b))
 
-pub table-length-run : (bs : List ℕ) (w : World) → length (tableOf (run w bs)) ≡ length (tableOf w)
+pub table-length-run : (bs : List ℕ) (w : World) → length (tableOf (stepAll w bs)) ≡ length (tableOf w)
 table-length-run bs w = table-run bs w .long
 
 -- Feed.
 
-leaves-of : (w : World) → leavesIn (stateOf w) ≡ leavesOf w
-unfolding leavesIn stateOf leavesOf
+leaves-of : (w : World) → leavesHeld (stateOf w) ≡ leavesOf w
+unfolding leavesHeld stateOf leavesOf
 leaves-of (reading n s f) = refl
 leaves-of (ended n top kept) = refl
 leaves-of (refused n x kept) = refl
@@ -497,22 +497,22 @@ leaves-of (refused n x kept) = refl
 record Framing (s : State) (piece work table : List ℕ) (o : Out FeedAnswer) : Type 0 where
   work-long : length (o .work) ≡ length work
   spared : (i : ℕ) → ((w : World) → worldOf s work table ≡ some w → Spared w piece i) → getD (o .work) i 0 ≡ getD work i 0
-  grown : Grown (leavesIn s) table (leavesIn (o .state)) (o .table)
+  grown : Grown (leavesHeld s) table (leavesHeld (o .state)) (o .table)
 
 framing-same : (s : State) (piece work table : List ℕ) (a : FeedAnswer) → Framing s piece work table (out a s work table)
-framing-same s piece work table a = record { work-long = refl; spared = λ i h. refl; grown = grown-same (leavesIn s) table }
+framing-same s piece work table a = record { work-long = refl; spared = λ i h. refl; grown = grown-same (leavesHeld s) table }
 
-framing-run : (s : State) (piece work table : List ℕ) (w : World) → worldOf s work table ≡ some w → workOf w ≡ work → tableOf w ≡ table → leavesOf w ≡ leavesIn s →
-    Framing s piece work table (fed (run w piece))
+framing-run : (s : State) (piece work table : List ℕ) (w : World) → worldOf s work table ≡ some w → workOf w ≡ work → tableOf w ≡ table → leavesOf w ≡ leavesHeld s →
+    Framing s piece work table (fed (stepAll w piece))
 framing-run s piece work table w e p q r =
     record {
       work-long = work-length-run piece w ∙ ap length p;
       spared = λ i h. spared-run piece w i (h w e) ∙ ap (λ (l : List ℕ). getD l i 0) p;
-      grown = rw (← q, ← r, leaves-of (run w piece)) (table-run piece w);
+      grown = rw (← q, ← r, leaves-of (stepAll w piece)) (table-run piece w);
     }
 
 state-framing : (s : State) (piece work table : List ℕ) → Framing s piece work table (feedState s piece work table)
-unfolding feedState worldOf workOf tableOf leavesOf leavesIn
+unfolding feedState worldOf workOf tableOf leavesOf leavesHeld
 state-framing (state.Reading n leaves now last s) piece work table =
     framing-run (state.Reading n leaves now last s) piece work table (reading n s (flowOf leaves now last work table)) refl refl refl refl
 state-framing (state.Ended n leaves top) piece work table =
@@ -544,5 +544,5 @@ pub feed-spared : (s : State) (piece work table : List ℕ) (i : ℕ) → ((w : 
 feed-spared s piece work table i h = feed-framing s piece work table .spared i h
 
 -- records listed before stay, and so do those past the ones listed after
-pub feed-table : (s : State) (piece work table : List ℕ) → Grown (leavesIn s) table (leavesIn (feedOf s piece work table .state)) (feedOf s piece work table .table)
+pub feed-table : (s : State) (piece work table : List ℕ) → Grown (leavesHeld s) table (leavesHeld (feedOf s piece work table .state)) (feedOf s piece work table .table)
 feed-table s piece work table = feed-framing s piece work table .grown

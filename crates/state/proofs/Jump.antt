@@ -12,7 +12,7 @@ use Rattle.basics.proofs.Picks.{pick-no, pick-holds}
 use Rattle.segment.specs.Constants.{limit}
 use Rattle.machine.specs.Faults.{shows, unless}
 use Rattle.machine.specs.Run.{Sub, go, done, lift}
-use Rattle.machine.specs.Lists.{Box, inBody, stepBox, Boxes, stepBoxes}
+use Rattle.machine.specs.Lists.{BoxPhase, inBody, stepBox, Boxes, stepBoxes}
 use Rattle.state.specs.declared.Span.{Span}
 use Rattle.state.specs.declared.Slot.{Slot}
 use Rattle.state.specs.declared.TrafBody.the-variants as trafs
@@ -36,7 +36,7 @@ use Rattle.state.specs.Traf.{nothing, headed, stepTrafBody, trafBoxes, w
 use Rattle.state.specs.Leaf.{skipped, stepMoofBody, moofBoxes, wrapMoof, stepMoof, stepLeafBody, leafBoxes, wrapLeaf, stepLeaf}
 use Rattle.state.specs.Opening.{passed, stepOpeningBody, opening, wrapOpening, stepOpening}
 use Rattle.state.specs.Stages.{gapBoxes, wrapGap, stepGap, stepStage}
-use Rattle.state.specs.Step.{World, reading, settle, pastLimit, step, run}
+use Rattle.state.specs.Step.{World, reading, settle, pastLimit, step, stepAll}
 use Rattle.state.specs.Jump.{trafBodySkips, trafSkips, moofBodySkips, moofSkips, leafBodySkips, leafSkips, openingBodySkips, openingSkips, gapSkips, skips, least, passing}
 
 -- before the last byte of a skipped body nothing ends
@@ -45,7 +45,7 @@ module _ {S R : Type 0} (r : R) (s : S) where
   skip-stays stop n f h = pick-no (leb stop (suc n)) (done r f) (go s f) (lt-leb stop (suc n) h)
 
 -- a list of boxes moves on, or stays, as its box's body does
-module _ {A B R Q S : Type 0} (l : Boxes A B R Q Flow Left) (wrap : A → Box B → S) where
+module _ {A B R Q S : Type 0} (l : Boxes A B R Q Flow Left) (wrap : A → BoxPhase B → S) where
   pub body-moves : (a : A) (s s' : B) (f g : Flow) (n b : ℕ) → l .box a .body s f n b ≡ go s' g → stepBoxes l wrap a (inBody s) f n b ≡ go (wrap a (inBody s')) g
   unfolding stepBox lift
   body-moves a s s' f g n b e = rw e
@@ -101,14 +101,14 @@ unfolding step settle unless
 step-stays n s f b low h = rw (past-none n low, stage-stays s f n b h)
 
 pub jump : (xs bytes : List ℕ) (n : ℕ) (s : Stage) (f : Flow) → n + length xs ≤ limit → n + length xs < skips s →
-    run (reading n s f) (xs ++ bytes) ≡ run (reading (n + length xs) s f) bytes
-unfolding run
+    stepAll (reading n s f) (xs ++ bytes) ≡ stepAll (reading (n + length xs) s f) bytes
+unfolding stepAll
 jump [] bytes n s f low h = let e : n + length {A = ℕ} [] ≡ n = omega arith in rw e
 jump (x ∷ xs) bytes n s f low h =
     let e : suc n + length xs ≡ n + length (x ∷ xs) = omega arith in
-    ap (λ (w : World). run w (xs ++ bytes)) (step-stays n s f x (omega arith) (omega arith))
+    ap (λ (w : World). stepAll w (xs ++ bytes)) (step-stays n s f x (omega arith) (omega arith))
     ∙ jump xs bytes (suc n) s f (omega arith) (omega arith)
-    ∙ ap (λ (m : ℕ). run (reading m s f) bytes) e
+    ∙ ap (λ (m : ℕ). stepAll (reading m s f) bytes) e
 
 pub least-first : (a b : ℕ) → least a b ≤ a
 unfolding least
@@ -135,20 +135,20 @@ passing-before s n rest some =
 
 -- so many bytes from a place on, all of them there
 passes : (bytes : List ℕ) (i k n : ℕ) (s : Stage) (f : Flow) → i + k ≤ length bytes → n + k ≤ limit → n + k < skips s →
-    run (reading n s f) (drop i bytes) ≡ run (reading (n + k) s f) (drop (i + k) bytes)
+    stepAll (reading n s f) (drop i bytes) ≡ stepAll (reading (n + k) s f) (drop (i + k) bytes)
 passes bytes i k n s f there low before =
     let e : length (take k (drop i bytes)) ≡ k = length-take-le k (drop i bytes) (simp length-drop (omega arith)) in
-    ap (λ (xs : List ℕ). run (reading n s f) xs) (sym (take-append-drop k (drop i bytes)))
+    ap (λ (xs : List ℕ). stepAll (reading n s f) xs) (sym (take-append-drop k (drop i bytes)))
     ∙ jump (take k (drop i bytes)) (drop k (drop i bytes)) n s f (rw e low) (rw e before)
-    ∙ ap (λ (m : ℕ). run (reading (n + m) s f) (drop k (drop i bytes))) e
-    ∙ ap (λ (xs : List ℕ). run (reading (n + k) s f) xs) (drop-drop k i bytes)
+    ∙ ap (λ (m : ℕ). stepAll (reading (n + m) s f) (drop k (drop i bytes))) e
+    ∙ ap (λ (xs : List ℕ). stepAll (reading (n + k) s f) xs) (drop-drop k i bytes)
 
 -- the bytes that pass at once, passed
 pub run-passing : (bytes : List ℕ) (i n : ℕ) (s : Stage) (f : Flow) → n ≤ limit → i ≤ length bytes →
-    let k : ℕ = passing s n (length bytes - i) in run (reading n s f) (drop i bytes) ≡ run (reading (n + k) s f) (drop (i + k) bytes)
+    let k : ℕ = passing s n (length bytes - i) in stepAll (reading n s f) (drop i bytes) ≡ stepAll (reading (n + k) s f) (drop (i + k) bytes)
 run-passing bytes i n s f low there = at (passing s n (length bytes - i)) refl
   where
-    at : (k : ℕ) → k ≡ passing s n (length bytes - i) → run (reading n s f) (drop i bytes) ≡ run (reading (n + k) s f) (drop (i + k) bytes)
+    at : (k : ℕ) → k ≡ passing s n (length bytes - i) → stepAll (reading n s f) (drop i bytes) ≡ stepAll (reading (n + k) s f) (drop (i + k) bytes)
     at zero e = let a : n + 0 ≡ n = omega arith in let b : i + 0 ≡ i = omega arith in rw (a, b) refl
     at (suc k) e =
         passes bytes i (suc k) n s f (omega (arith, e, passing-there s n (length bytes - i))) (omega (arith, e, passing-limit s n (length bytes - i) low))

@@ -19,7 +19,7 @@ use Rattle.state.specs.declared.State.the-variants as state
 use Rattle.state.specs.declared.FeedAnswer.{FeedAnswer}
 use Rattle.state.specs.declared.FeedAnswer.the-variants as feeds
 use Rattle.state.specs.declared.FinishAnswer.the-variants as finishes
-use Rattle.state.specs.Step.{World, reading, ended, refused, run}
+use Rattle.state.specs.Step.{World, reading, ended, refused, stepAll}
 use Rattle.state.specs.Ranges.{inRange, InRange, bounds}
 use Rattle.state.specs.Calls.{Out, out, flowOf, leftOf, stateOf, answerOf, feedState, feedOf, Finished, finished, finishState, finishOf}
 use Rattle.state.specs.Parts.{held, feedHeld, feedAll}
@@ -80,8 +80,8 @@ refused-world (refused n y kept) x e = let same : y ≡ x = cc in record { count
 pub refused-feed : (s : State) (piece work table : List ℕ) (x : Refusal) → feedState s piece work table .answer ≡ feeds.Refused x →
     After (feedState s piece work table .state) x ⊎ ((x ≡ refusal 22 0) × (feedState s piece work table ≡ out (feeds.Refused x) s work table))
 unfolding feedState
-refused-feed (state.Reading n leaves now last s) piece work table x e = inl (refused-world (run (reading n s (flowOf leaves now last work table)) piece) x e)
-refused-feed (state.Ended n leaves top) piece work table x e = inl (refused-world (run (ended n top (leftOf leaves work table)) piece) x e)
+refused-feed (state.Reading n leaves now last s) piece work table x e = inl (refused-world (stepAll (reading n s (flowOf leaves now last work table)) piece) x e)
+refused-feed (state.Ended n leaves top) piece work table x e = inl (refused-world (stepAll (ended n top (leftOf leaves work table)) piece) x e)
 refused-feed (state.Refused n leaves y) piece work table x e = let same : y ≡ x = cc in inl (record { count = n; leaves = leaves; is = ap (state.Refused n leaves) same })
 refused-feed (state.Accepted n leaves top) piece work table x e = let same : refusal 22 0 ≡ x = cc in inr (sym same, rw (← same))
 

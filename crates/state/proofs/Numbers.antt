@@ -11,7 +11,7 @@ use Rattle.segment.specs.Constants.{limit}
 use Rattle.machine.specs.Faults.{unless}
 use Rattle.machine.specs.Run.{Sub, go, lift}
 use Rattle.machine.specs.Heads.{stepHead}
-use Rattle.machine.specs.Lists.{Box, inHead, stepBox, Boxes, stepBoxes}
+use Rattle.machine.specs.Lists.{BoxPhase, inHead, stepBox, Boxes, stepBoxes}
 use Rattle.machine.specs.declared.Head.{Head}
 use Rattle.machine.specs.declared.Head.the-variants as at
 use Rattle.state.specs.declared.Track.{Track}
@@ -48,7 +48,7 @@ use Rattle.state.specs.Traf.{stepTrafBody, trafBoxes, wrapTraf, stepTraf
 use Rattle.state.specs.Leaf.{stepMoofBody, moofBoxes, wrapMoof, stepMoof, stepLeafBody, leafBoxes, wrapLeaf, stepLeaf}
 use Rattle.state.specs.Opening.{stepOpeningBody, opening, wrapOpening, stepOpening}
 use Rattle.state.specs.Stages.{gapBoxes, wrapGap, stepGap, stepStage}
-use Rattle.state.specs.Step.{World, reading, settle, step, run}
+use Rattle.state.specs.Step.{World, reading, settle, step, stepAll}
 use Rattle.state.specs.Numbers.{Number, absent, inside, headNumber, sidxNumber, trafBodyNumber, trafNumber, moofBodyNumber, moofNumber, leafBodyNumber, leafNumber, openingBodyNumber}
 use Rattle.state.specs.Numbers.{openingNumber, gapNumber, innerNumber, stageNumber, stageOn, workOn, putIn, Short}
 use Rattle.state.proofs.Jump.{body-moves, past-none}
@@ -92,7 +92,7 @@ sidx-spells p span (sidx.Field i d more acc) = record { same = refl; on = λ goi
 sidx-spells p span (sidx.Entry e d s more acc) = record { same = refl; on = λ going f n b m a. refl }
 
 -- a list of boxes moves on as the header of its box does
-module _ {A B R Q S : Type 0} (l : Boxes A B R Q Flow Left) (wrap : A → Box B → S) where
+module _ {A B R Q S : Type 0} (l : Boxes A B R Q Flow Left) (wrap : A → BoxPhase B → S) where
   head-moves : (a : A) (h h' : Head) (f g : Flow) (n b : ℕ) → stepHead (l .box a .left) (l .box a .end) h f n b ≡ go h' g →
       stepBoxes l wrap a (inHead h) f n b ≡ go (wrap a (inHead h')) g
   unfolding stepBox lift
@@ -165,9 +165,9 @@ number-step n m a s f b low going = rw (past-none n low, stage-spells s .on goin
 
 -- all of its bytes that are at hand but for its last: `m` more follow them, and the last
 number-run : (xs bytes : List ℕ) (n m a : ℕ) (s : Stage) (f : Flow) → n + length xs ≤ limit → 0 < stageNumber s .more →
-    run (reading n (stageNumber s .again (m + length xs) a) f) (xs ++ bytes)
-    ≡ run (reading (n + length xs) (stageNumber s .again m (numberFrom a xs)) (keepAll (stageNumber s .place) (m + length xs) f xs)) bytes
-unfolding run numberFrom keepAll
+    stepAll (reading n (stageNumber s .again (m + length xs) a) f) (xs ++ bytes)
+    ≡ stepAll (reading (n + length xs) (stageNumber s .again m (numberFrom a xs)) (keepAll (stageNumber s .place) (m + length xs) f xs)) bytes
+unfolding stepAll numberFrom keepAll
 number-run [] bytes n m a s f low going =
     let e : n + length {A = ℕ} [] ≡ n = omega arith in
     let d : m + length {A = ℕ} [] ≡ m = omega arith in
@@ -176,12 +176,12 @@ number-run (x ∷ xs) bytes n m a s f low going =
     let e : suc n + length xs ≡ n + length (x ∷ xs) = omega arith in
     let d : m + length (x ∷ xs) ≡ suc (m + length xs) = omega arith in
     let p : m + length xs ≡ m + length (x ∷ xs) - 1 = omega arith in
-    ap (λ (k : ℕ). run (step (reading n (stageNumber s .again k a) f) x) (xs ++ bytes)) d
-    ∙ ap (λ (w : World). run w (xs ++ bytes)) (number-step n (m + length xs) a s f x (omega arith) going)
+    ap (λ (k : ℕ). stepAll (step (reading n (stageNumber s .again k a) f) x) (xs ++ bytes)) d
+    ∙ ap (λ (w : World). stepAll w (xs ++ bytes)) (number-step n (m + length xs) a s f x (omega arith) going)
     ∙ number-run xs bytes (suc n) m (a * 256 + x) s (keepIn (stageNumber s .place) (suc (m + length xs)) f x) (omega arith) going
     ∙ ap (λ (k : ℕ).
-    run (reading k (stageNumber s .again m (numberFrom (a * 256 + x) xs)) (keepAll (stageNumber s .place) (m + length xs) (keepIn (stageNumber s .place) (suc (m + length xs)) f x) xs)) bytes) e
-    ∙ ap (λ (g : Flow). run (reading (n + length (x ∷ xs)) (stageNumber s .again m (numberFrom (a * 256 + x) xs)) g) bytes)
+    stepAll (reading k (stageNumber s .again m (numberFrom (a * 256 + x) xs)) (keepAll (stageNumber s .place) (m + length xs) (keepIn (stageNumber s .place) (suc (m + length xs)) f x) xs)) bytes) e
+    ∙ ap (λ (g : Flow). stepAll (reading (n + length (x ∷ xs)) (stageNumber s .again m (numberFrom (a * 256 + x) xs)) g) bytes)
     (ap (λ (k : ℕ). keepAll (stageNumber s .place) k (keepIn (stageNumber s .place) (suc (m + length xs)) f x) xs) p
     ∙ ap (λ (k : ℕ). keepAll (stageNumber s .place) (m + length (x ∷ xs) - 1) (keepIn (stageNumber s .place) k f x) xs) (sym d))
 
@@ -215,7 +215,7 @@ none-put s work = put-none (stageNumber s .place) (stageNumber s .more) work
 pub number-taken : (k : ℕ) (bytes : List ℕ) (i n : ℕ) (s : Stage) (f : Flow) → let x : Number Stage = stageNumber s in
     i + k ≤ length bytes → n + k ≤ limit → k ≤ x .more → Short (x .place) (x .more) →
     let bs : List ℕ = take k (drop i bytes) in
-    run (reading n s f) (drop i bytes) ≡ run (reading (n + k) (stageOn s k bs) (withWork f (workOn s (f .work) bs))) (drop (i + k) bytes)
+    stepAll (reading n s f) (drop i bytes) ≡ stepAll (reading (n + k) (stageOn s k bs) (withWork f (workOn s (f .work) bs))) (drop (i + k) bytes)
 number-taken zero bytes i n s f there low most short =
     let a : n + 0 ≡ n = omega arith in
     let b : i + 0 ≡ i = omega arith in
@@ -226,11 +226,11 @@ number-taken (suc j) bytes i n s f there low most short =
     let bs : List ℕ = take k (drop i bytes) in
     let e : length bs ≡ k = length-take-le k (drop i bytes) (simp length-drop (omega arith)) in
     let d : x .more ≡ (x .more - k) + length bs = rw e (omega arith) in
-    ap (λ (q : Stage). run (reading n q f) (drop i bytes)) (sym (stage-spells s .same))
-    ∙ ap (λ (m : ℕ). run (reading n (x .again m (x .acc)) f) (drop i bytes)) d
-    ∙ ap (λ (xs : List ℕ). run (reading n (x .again ((x .more - k) + length bs) (x .acc)) f) xs) (sym (take-append-drop k (drop i bytes)))
+    ap (λ (q : Stage). stepAll (reading n q f) (drop i bytes)) (sym (stage-spells s .same))
+    ∙ ap (λ (m : ℕ). stepAll (reading n (x .again m (x .acc)) f) (drop i bytes)) d
+    ∙ ap (λ (xs : List ℕ). stepAll (reading n (x .again ((x .more - k) + length bs) (x .acc)) f) xs) (sym (take-append-drop k (drop i bytes)))
     ∙ number-run bs (drop k (drop i bytes)) n (x .more - k) (x .acc) s f (rw e low) (omega arith)
-    ∙ ap (λ (m : ℕ). run (reading (n + length bs) (stageOn s k bs) (keepAll (x .place) m f bs)) (drop k (drop i bytes))) (sym d)
-    ∙ ap (λ (g : Flow). run (reading (n + length bs) (stageOn s k bs) g) (drop k (drop i bytes))) (kept-put (x .place) (x .more) f bs (rw e most) short)
-    ∙ ap (λ (m : ℕ). run (reading (n + m) (stageOn s k bs) (withWork f (workOn s (f .work) bs))) (drop k (drop i bytes))) e
-    ∙ ap (λ (xs : List ℕ). run (reading (n + k) (stageOn s k bs) (withWork f (workOn s (f .work) bs))) xs) (drop-drop k i bytes)
+    ∙ ap (λ (m : ℕ). stepAll (reading (n + length bs) (stageOn s k bs) (keepAll (x .place) m f bs)) (drop k (drop i bytes))) (sym d)
+    ∙ ap (λ (g : Flow). stepAll (reading (n + length bs) (stageOn s k bs) g) (drop k (drop i bytes))) (kept-put (x .place) (x .more) f bs (rw e most) short)
+    ∙ ap (λ (m : ℕ). stepAll (reading (n + m) (stageOn s k bs) (withWork f (workOn s (f .work) bs))) (drop k (drop i bytes))) e
+    ∙ ap (λ (xs : List ℕ). stepAll (reading (n + k) (stageOn s k bs) (withWork f (workOn s (f .work) bs))) xs) (drop-drop k i bytes)

@@ -13,7 +13,7 @@ use Rattle.table.specs.Table.{mostRecords}
 use Rattle.machine.specs.Faults.{shows, lowest, unless}
 use Rattle.machine.specs.Run.{Sub, done, bad}
 use Rattle.machine.specs.Heads.{underEight, underSixteen, sizeFaults, sized, stepHead}
-use Rattle.machine.specs.Lists.{Box, inHead, inBody, Kind, faultsOf, liftBody, headed, stepBox, Next, again, over, Boxes, goOn, stepBoxes}
+use Rattle.machine.specs.Lists.{BoxPhase, inHead, inBody, Kind, faultsOf, liftBody, headed, stepBox, Next, again, over, Boxes, goOn, stepBoxes}
 use Rattle.machine.specs.declared.Refusal.{Refusal}
 use Rattle.machine.specs.declared.Header.{Header}
 use Rattle.machine.specs.declared.Head.{Head}
@@ -78,7 +78,7 @@ module _ (lf : Flow → Left) (keeps : (f : Flow) → f .leaves ≤ mostRecords 
   head-kept (at.Large pos kind (suc m) acc) f n b hn hb w k = ((w .0, spelled-next 7 m acc b hb (w .1)), k)
 
 -- A box: the bounds of its header, or of its body.
-abbrev pub boxBounds : {B : Type 0} → (B → List Bound) → Box B → List Bound
+abbrev pub boxBounds : {B : Type 0} → (B → List Bound) → BoxPhase B → List Bound
 boxBounds bb (inHead h) = headBounds h
 boxBounds bb (inBody s) = bb s
 
@@ -98,7 +98,7 @@ module _ {B R : Type 0} (t : ℕ) (k : Kind B R Flow Left) (bb : B → List Boun
       (keeps f (z .0))
       (λ e. body-kept (k .begin h f n) (begins h f n (none-second (sizeFaults (k .end) h) (k .shown h f) e) z))
 
-  pub box-kept : (s : Box B) (f : Flow) (n b : ℕ) → n ≤ limit → b < 256 → Within (boxBounds bb s) → Flows t f → KeptIn t (boxBounds bb) D (stepBox k s f n b)
+  pub box-kept : (s : BoxPhase B) (f : Flow) (n b : ℕ) → n ≤ limit → b < 256 → Within (boxBounds bb s) → Flows t f → KeptIn t (boxBounds bb) D (stepBox k s f n b)
   unfolding stepBox
   box-kept (inHead h) f n b hn hb w z =
       lift-kept (Goes t headBounds) (λ r g. Flows t g) Refuses (Goes t (boxBounds bb)) D Refuses inHead (λ h' g. headed k h' g (suc n)) bad
@@ -111,7 +111,7 @@ Closes t E f (again a xs) = Each Numbered xs × Flows t f
 Closes t E f (over q xs) = Each Numbered xs × (f .leaves ≤ mostRecords) × (xs ≡ [] → E q f)
 
 -- A list of boxes.
-module _ {A B R Q S : Type 0} (t : ℕ) (l : Boxes A B R Q Flow Left) (wrap : A → Box B → S) (sb : S → List Bound) (E : Q → Flow → Type 0)
+module _ {A B R Q S : Type 0} (t : ℕ) (l : Boxes A B R Q Flow Left) (wrap : A → BoxPhase B → S) (sb : S → List Bound) (E : Q → Flow → Type 0)
     (keeps : (f : Flow) → f .leaves ≤ mostRecords → l .kept f .leaves ≤ mostRecords)
     (heads : (a : A) (h : Head) → Within (headBounds h) → Within (sb (wrap a (inHead h)))) where
   pub goOn-kept : (x : Next A Q) (f : Flow) → Closes t E f x → KeptIn t sb E (goOn l wrap x f)
@@ -122,11 +122,11 @@ module _ {A B R Q S : Type 0} (t : ℕ) (l : Boxes A B R Q Flow Left) (wrap : A 
   module _ (bb : B → List Bound) (D : R → Flow → Type 0) (inners : (a : A) (s : B) → Within (bb s) → Within (sb (wrap a (inBody s))))
       (closes : (a : A) (r : R) (f : Flow) (n : ℕ) → D r f → Closes t E f (l .close a r f n))
       (besides : (a : A) (kept : Left) (n : ℕ) → Each Numbered (l .beside a kept n)) where
-    wraps : (a : A) (s : Box B) → Within (boxBounds bb s) → Within (sb (wrap a s))
+    wraps : (a : A) (s : BoxPhase B) → Within (boxBounds bb s) → Within (sb (wrap a s))
     wraps a (inHead h) w = heads a h w
     wraps a (inBody s) w = inners a s w
 
-    pub boxes-kept : (a : A) (s : Box B) (f : Flow) (n b : ℕ) → KeptIn t (boxBounds bb) D (stepBox (l .box a) s f n b) → KeptIn t sb E (stepBoxes l wrap a s f n b)
+    pub boxes-kept : (a : A) (s : BoxPhase B) (f : Flow) (n b : ℕ) → KeptIn t (boxBounds bb) D (stepBox (l .box a) s f n b) → KeptIn t sb E (stepBoxes l wrap a s f n b)
     boxes-kept a s f n b h =
         lift-kept (Goes t (boxBounds bb)) D Refuses (Goes t sb) E Refuses (wrap a) (λ r g. goOn l wrap (l .close a r g (suc n)) g) (λ x kept. bad (lowest x (l .beside a kept (suc n))) kept)
         (stepBox (l .box a) s f n b) (λ s' g y. (wraps a s' (y .0), y .1)) (λ r g y. goOn-kept (l .close a r g (suc n)) g (closes a r g (suc n) y))

@@ -11,7 +11,7 @@ use Rattle.basics.proofs.Picks.{pick-holds}
 use Rattle.segment.specs.Constants.{limit, tfhd, tfdt, traf, moof}
 use Rattle.machine.specs.Run.{Sub, done, bad}
 use Rattle.machine.specs.Heads.{boxEnd}
-use Rattle.machine.specs.Lists.{Box, inHead, inBody, stepBoxes}
+use Rattle.machine.specs.Lists.{BoxPhase, inHead, inBody, stepBoxes}
 use Rattle.machine.specs.declared.Refusal.{Refusal}
 use Rattle.machine.specs.declared.Header.{Header}
 use Rattle.machine.proofs.Kept.{lift-kept, Each, each-none}
@@ -130,7 +130,7 @@ module _ (t : ℕ) where
   begin-traf-boxes id span seen f n k =
       goOn-kept t (trafBoxes id span) wrapTraf trafBounds Fine (λ g h. h) (λ a h w. w) (trafNext span (trafSo0 seen) [] n) f (traf-next span (trafSo0 seen) [] f n (each-none Numbered) k)
 
-  traf-box : (id : ℕ) (span : Span) (so : TrafSo) (s : Box TrafBody) (f : Flow) (n b : ℕ) → n ≤ limit → b < 256 → Within (boxBounds trafBodyBounds s) → Flows t f →
+  traf-box : (id : ℕ) (span : Span) (so : TrafSo) (s : BoxPhase TrafBody) (f : Flow) (n b : ℕ) → n ≤ limit → b < 256 → Within (boxBounds trafBodyBounds s) → Flows t f →
       KeptIn t trafBounds Fine (stepBoxes (trafBoxes id span) wrapTraf so s f n b)
   unfolding trafBounds
   traf-box id span so s f n b hn hb w k =
@@ -175,7 +175,7 @@ module _ (t : ℕ) where
   begin-moof-boxes id end seen f n k =
       goOn-kept t (moofBoxes id end) wrapMoof moofBounds Fine (λ g h. h) (λ a h w. w) (moofNext end seen n) f (moof-next end seen f n k)
 
-  moof-box : (id end : ℕ) (seen : Seen) (s : Box MoofBody) (f : Flow) (n b : ℕ) → n ≤ limit → b < 256 → Within (boxBounds moofBodyBounds s) → Flows t f →
+  moof-box : (id end : ℕ) (seen : Seen) (s : BoxPhase MoofBody) (f : Flow) (n b : ℕ) → n ≤ limit → b < 256 → Within (boxBounds moofBodyBounds s) → Flows t f →
       KeptIn t moofBounds Fine (stepBoxes (moofBoxes id end) wrapMoof seen s f n b)
   unfolding moofBounds
   moof-box id end seen s f n b hn hb w k =
@@ -228,7 +228,7 @@ module _ (t : ℕ) where
             (let r = leb-false (room (f .table)) (f .leaves) (shows-none (noRoom (f .leaves) (f .table)) 15 (slot .pos) (none-first _ _ e')) in omega (arith, room-most (f .table)), k .1),
       )) (λ e. (each-none Numbered, k))
 
-  leaf-box : (id : ℕ) (slot : Slot) (so : LeafSo) (s : Box LeafBody) (f : Flow) (n b : ℕ) → n ≤ limit → b < 256 → Within (boxBounds leafBodyBounds s) → Flows t f →
+  leaf-box : (id : ℕ) (slot : Slot) (so : LeafSo) (s : BoxPhase LeafBody) (f : Flow) (n b : ℕ) → n ≤ limit → b < 256 → Within (boxBounds leafBodyBounds s) → Flows t f →
       KeptIn t leafBounds Roomy (stepBoxes (leafBoxes id slot) wrapLeaf so s f n b)
   unfolding leafBounds
   leaf-box id slot so s f n b hn hb w k =

@@ -80,4 +80,5 @@ unfolding stillOpen levelsBounds inmost
 still-open (levels.One a) now w h = still-one a now w h
 still-open (levels.Two a b) now w h = still-two a b now w h
 still-open (levels.Three a b c) now w h = still-three a b c now w h
-still-open (levels.Four a b c d) now w h = pick-holds (Still now) (passedAll d) _ _ (λ e. still-three a b c now (omega arith) (omega arith)) (λ e. let z = eqb-false (d .next) (d .count) e in (w, (omega arith, h)))
+still-open (levels.Four a b c d) now w h =
+    pick-holds (Still now) (passedAll d) _ _ (λ e. still-three a b c now (omega arith) (omega arith)) (λ e. let z = eqb-false (d .next) (d .count) e in (w, (omega arith, h)))

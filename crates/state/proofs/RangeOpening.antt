@@ -8,7 +8,7 @@ use Rattle.basics.proofs.Picks.{pick-holds}
 use Rattle.segment.specs.Constants.{limit, styp, sidx}
 use Rattle.machine.specs.Run.{done, bad}
 use Rattle.machine.specs.Heads.{boxEnd}
-use Rattle.machine.specs.Lists.{Box, inHead, inBody, stepBoxes}
+use Rattle.machine.specs.Lists.{BoxPhase, inHead, inBody, stepBoxes}
 use Rattle.machine.specs.declared.Header.{Header}
 use Rattle.machine.proofs.Kept.{lift-kept, Each, each-none}
 use Rattle.state.specs.declared.Span.{Span}
@@ -23,7 +23,8 @@ use Rattle.state.specs.declared.GapBoxes.the-variants as gaps
 use Rattle.state.specs.Flow.{Flow, left}
 use Rattle.state.specs.Rows.{is, openingFaults, gapFaults}
 use Rattle.state.specs.Sidx.{topmost, stepSidx}
-use Rattle.state.specs.Opening.{Opened, passed, indexed, unlisted, brandsFrom, stypEnds, skipOpening, beginOpening, stepOpeningBody, openingBox, closeOpening, opening, wrapOpening, stepOpening}
+use Rattle.state.specs.Opening.{OpeningGave, passed, indexed, unlisted, brandsFrom, stypEnds, skipOpening, beginOpening, stepOpeningBody, openingBox}
+use Rattle.state.specs.Opening.{closeOpening, opening, wrapOpening, stepOpening}
 use Rattle.state.specs.Stages.{skipGap, gapKind, gapNext, gapBoxes, wrapGap, stepGap}
 use Rattle.state.specs.Ranges.{Bound, Within, openingBodyBounds, openingBounds, gapBounds, sidxBounds}
 use Rattle.state.proofs.RangeTests.{spelled-first, spelled-next}
@@ -41,7 +42,7 @@ gap-faults h = both _ _ (top-lengths h) (both _ _ (shown _ 7 _ (omega arith)) (s
 
 module _ (t : ℕ) where
   -- a box is passed, or it was the top index
-  abbrev Opens : Opened → Flow → Type 0
+  abbrev Opens : OpeningGave → Flow → Type 0
   Opens passed f = Flows t f
   Opens (indexed x) f = Read t topmost x f
 
@@ -78,12 +79,12 @@ module _ (t : ℕ) where
       lift-kept (Goes t sidxBounds) (Read t topmost) Refuses (Goes t openingBodyBounds) Opens Refuses (body.Index span) (λ x g. done (indexed x) g) bad
       (stepSidx topmost span s f n b) (λ s' g y. y) (λ x g y. y) (λ x l y. y) (step-sidx t topmost span s f n b hb w k)
 
-  close-opening : (branded : Bool) (r : Opened) (f : Flow) (n : ℕ) → Opens r f → Closes t (Read t topmost) f (closeOpening branded r f n)
+  close-opening : (branded : Bool) (r : OpeningGave) (f : Flow) (n : ℕ) → Opens r f → Closes t (Read t topmost) f (closeOpening branded r f n)
   unfolding closeOpening
   close-opening branded passed f n k = (each-none Numbered, k)
   close-opening branded (indexed x) f n k = (each-none Numbered, k .2 .0, λ e. k)
 
-  opening-box : (brand : ℕ) (branded : Bool) (s : Box OpeningBody) (f : Flow) (n b : ℕ) → n ≤ limit → b < 256 → Within (boxBounds openingBodyBounds s) → Flows t f →
+  opening-box : (brand : ℕ) (branded : Bool) (s : BoxPhase OpeningBody) (f : Flow) (n b : ℕ) → n ≤ limit → b < 256 → Within (boxBounds openingBodyBounds s) → Flows t f →
       KeptIn t openingBounds (Read t topmost) (stepBoxes (opening brand) wrapOpening branded s f n b)
   unfolding openingBounds
   opening-box brand branded s f n b hn hb w k =
@@ -111,7 +112,7 @@ module _ (t : ℕ) where
   unfolding gapNext
   gap-next end f n k = pick-holds (Closes t Passes f) (eqb n end) _ _ (λ e. (each-none Numbered, k .0, λ e'. k)) (λ e. (each-none Numbered, k))
 
-  gap-box : (end : ℕ) (s : Box ℕ) (f : Flow) (n b : ℕ) → n ≤ limit → b < 256 → Within (boxBounds noBounds s) → Flows t f → KeptIn t gapBounds Passes (stepBoxes (gapBoxes end) wrapGap tt s f n b)
+  gap-box : (end : ℕ) (s : BoxPhase ℕ) (f : Flow) (n b : ℕ) → n ≤ limit → b < 256 → Within (boxBounds noBounds s) → Flows t f → KeptIn t gapBounds Passes (stepBoxes (gapBoxes end) wrapGap tt s f n b)
   unfolding gapBounds
   gap-box end s f n b hn hb w k =
       boxes-kept t (gapBoxes end) wrapGap gapBounds Passes (λ g h. h) (λ a h y. y) noBounds Passes (λ a x y. y) (λ a r g m h. gap-next end g m h)

@@ -13,7 +13,7 @@ use Rattle.segment.specs.Constants.{limit, levels as mostLevels, styp, sidx}
 use Rattle.table.specs.Table.{mostRecords}
 use Rattle.machine.specs.Faults.{shows}
 use Rattle.machine.specs.Run.{Sub, done, bad}
-use Rattle.machine.specs.Lists.{Box, inHead, inBody, stepBox}
+use Rattle.machine.specs.Lists.{BoxPhase, inHead, inBody, stepBox}
 use Rattle.machine.specs.declared.Header.{Header}
 use Rattle.machine.specs.declared.Head.the-variants as at
 use Rattle.machine.proofs.Kept.{Kept, lift-kept, Each, unless-holds}
@@ -128,12 +128,12 @@ module _ (top : Top) (ls : Levels) (slot : Slot) (t : ℕ) where
       (stepSidx (under top slot (depth ls)) (s .span) (s .sidx) f n b)
       (λ s' g y. ((w .0, y .0), y .1)) (λ x g y. (w .0, y)) (λ x l y. y) (step-sidx t (under top slot (depth ls)) (s .span) (s .sidx) f n b hb (w .1) k)
 
-  inner-wraps : (s : Box InnerBody) → Within (boxBounds bodyBounds s) → Within (innerBounds ls (wrapInner s))
+  inner-wraps : (s : BoxPhase InnerBody) → Within (boxBounds bodyBounds s) → Within (innerBounds ls (wrapInner s))
   unfolding innerBounds
   inner-wraps (inHead h) w = w
   inner-wraps (inBody s) w = w
 
-  inner-goes : (s : Box InnerBody) (f : Flow) → Around top ls slot t → Goes t (boxBounds bodyBounds) s f → StageGoes (stage.Inner top ls slot (wrapInner s)) f
+  inner-goes : (s : BoxPhase InnerBody) (f : Flow) → Around top ls slot t → Goes t (boxBounds bodyBounds) s f → StageGoes (stage.Inner top ls slot (wrapInner s)) f
   unfolding stageBounds
   inner-goes s f a y =
       (rw (y .1 .1) (within-four (topBounds top) (levelsBounds ls) (slotBounds ls slot t) (innerBounds ls (wrapInner s)) (a .0) (a .1) (a .2) (inner-wraps s (y .0))), y .1 .0)
@@ -145,7 +145,7 @@ module _ (top : Top) (ls : Levels) (slot : Slot) (t : ℕ) where
       (rw (push-inmost ls (innerLevel x slot) (y .0)) (let k : f .now ≡ t = y .1 .2 .1 in omega (arith, a .2 .1 .0)))
       (y .1 .2 .0)
 
-  step-inner : (s : Box InnerBody) (f : Flow) (n b : ℕ) → n ≤ limit → b < 256 → Around top ls slot t → Within (boxBounds bodyBounds s) → Flows t f →
+  step-inner : (s : BoxPhase InnerBody) (f : Flow) (n b : ℕ) → n ≤ limit → b < 256 → Around top ls slot t → Within (boxBounds bodyBounds s) → Flows t f →
       StageKept (stepInner top ls slot s f n b)
   step-inner s f n b hn hb a w k =
       lift-kept (Goes t (boxBounds bodyBounds)) Inside Refuses StageGoes StageDone Refuses (λ s'. stage.Inner top ls slot (wrapInner s'))

@@ -23,7 +23,7 @@ use Rattle.state.specs.declared.State.{State}
 use Rattle.state.specs.declared.State.the-variants as state
 use Rattle.state.specs.declared.FeedAnswer.{FeedAnswer}
 use Rattle.state.specs.Flow.{Flow, Left, workBytes}
-use Rattle.state.specs.Step.{World, reading, ended, refused, settle, pastLimit, entryShows, overLimit, pastMaterial, step, run}
+use Rattle.state.specs.Step.{World, reading, ended, refused, settle, pastLimit, entryShows, overLimit, pastMaterial, step, stepAll}
 use Rattle.state.specs.Ranges.{headBounds, openingBounds, stageBounds, bounds, inRange, InRange}
 use Rattle.state.specs.Calls.{Out, stateOf, flowOf, leftOf, startOf, feedState, feedOf, Finished, finishState, finishOf}
 use Rattle.state.proofs.RangeKept.{Numbered, shown}
@@ -65,8 +65,8 @@ step-kept (ended n top kept) b hb g =
 step-kept (refused n x kept) b hb g = g
 
 -- bytes keep them
-pub run-kept : (w : World) (bs : List ℕ) → AllBytes bs → InRange (stateOf w) → InRange (stateOf (run w bs))
-unfolding run
+pub run-kept : (w : World) (bs : List ℕ) → AllBytes bs → InRange (stateOf w) → InRange (stateOf (stepAll w bs))
+unfolding stepAll
 run-kept w [] h g = g
 run-kept w (b ∷ bs) h g = run-kept (step w b) bs (h .1) (step-kept w b (h .0) g)
 

@@ -15,7 +15,7 @@ use Rattle.segment.specs.Constants.{limit, timeLimit, entryBytes, mostEntries, 
 use Rattle.machine.specs.Faults.{refusal, shows, lowest, unless}
 use Rattle.machine.specs.Run.{Sub, go, done, bad}
 use Rattle.machine.specs.Heads.{boxEnd}
-use Rattle.machine.specs.Lists.{Box, inHead, inBody, stepBox, stepBoxes}
+use Rattle.machine.specs.Lists.{BoxPhase, inHead, inBody, stepBox, stepBoxes}
 use Rattle.machine.specs.declared.Refusal.{Refusal}
 use Rattle.machine.specs.declared.Header.{Header}
 use Rattle.machine.specs.declared.Head.the-variants as at
@@ -55,15 +55,15 @@ use Rattle.state.specs.declared.Stage.the-variants as stage
 use Rattle.state.specs.Flow.{Flow, Left, left, withNow, withWork}
 use Rattle.state.specs.Rows.{is}
 use Rattle.state.specs.Sidx as Index
-use Rattle.state.specs.Sidx.{Place, topmost, under, countFaults, sumFaults, sizeOf, entrySizeFaults, wordPlace, indexOf, closeSidx, fieldEnds, entryEnds, stepSidx}
-use Rattle.state.specs.Opening.{Opened, passed, indexed, brandsFrom, stypEnds, skipOpening, beginOpening, stepOpeningBody, openingBox, closeOpening, opening, wrapOpening, stepOpening}
+use Rattle.state.specs.Sidx.{Place, topmost, under, countFaults, sumFaults, entrySize, entrySizeFaults, wordPlace, indexOf, closeSidx, fieldEnds, entryEnds, stepSidx}
+use Rattle.state.specs.Opening.{OpeningGave, passed, indexed, brandsFrom, stypEnds, skipOpening, beginOpening, stepOpeningBody, openingBox, closeOpening, opening, wrapOpening, stepOpening}
 use Rattle.state.specs.Leaf.{leafSo0, leafNext, leafNow, leafBoxes, wrapLeaf, stepLeaf}
 use Rattle.state.specs.Levels.{entryAt, entryPlace, inmost, depth, took, tookEntry, push, passedAll, stillOne, stillTwo, stillThree, stillOpen, altered, entryFaults, slotOf}
 use Rattle.state.specs.declared.StoredEntry.{StoredEntry}
 use Rattle.state.specs.Stages.{gapNext, gapBoxes, wrapGap, stepGap, onward, follow, topOf, topLevel, indexEnds, stepInLeaf, stepSlot, stepEntry, stepStage}
 use Rattle.state.specs.Stages.{InnerBody, liftSidx, innerKind, wrapInner, innerLevel, stepInner}
 use Rattle.state.specs.Places.{sidxByte, openingBodyByte, openingByte, stageByte, storedAt}
-use Rattle.state.specs.Step.{World, reading, ended, refused, settle, pastLimit, entryShows, overLimit, leftOver, step, run, stage0, flow0}
+use Rattle.state.specs.Step.{World, reading, ended, refused, settle, pastLimit, entryShows, overLimit, leftOver, step, stepAll, stage0, flow0}
 use Rattle.state.specs.Ranges.{sizesRead}
 use Rattle.state.proofs.Phases.{Unaltered, unaltered}
 
@@ -193,7 +193,7 @@ module _ (p : Place) (span : Span) (n : ℕ) where
   entry-ends : (e : EntryPart) (d : Draft) (s : Sums) (acc v m : ℕ) (f : Flow) → n ≡ suc m → InSidx span m (indexes.Entry e d s 0 acc) → Unrefused Goes Ends (entryEnds p span e d s v f n)
   unfolding entryEnds wordPlace sizesRead
   entry-ends entry.Size d s acc v m f at h =
-      unless-unrefused Goes Ends (entrySizeFaults span v) (left f) _ (λ e. let z = eqb-false (sizeOf v) 0 (shows-none _ 11 (span .pos) e) in omega arith)
+      unless-unrefused Goes Ends (entrySizeFaults span v) (left f) _ (λ e. let z = eqb-false (entrySize v) 0 (shows-none _ 11 (span .pos) e) in omega arith)
   entry-ends entry.Duration d s acc v m f at h = omega arith
   entry-ends entry.Sap d s acc v m f at h =
       pick-holds (Unrefused Goes Ends) (eqb (suc (s .next)) (s .count)) _ _ (λ e. close-sidx (indexOf d s) f (omega arith))
@@ -216,7 +216,7 @@ abbrev InOpening : ℕ → OpeningBoxes → Flow → Type 0
 InOpening n (boxes.Head branded h) f = Unit {0}
 InOpening n (boxes.Body branded s) f = InOpeningBody n s f
 
-abbrev Opens : ℕ → Opened → Flow → Type 0
+abbrev Opens : ℕ → OpeningGave → Flow → Type 0
 Opens n passed f = Unit {0}
 Opens n (indexed x) f = Read topmost n x
 
@@ -250,12 +250,12 @@ step-opening-body n brand (body.Index span s) f b h =
     lift-unrefused (Goes topmost span (suc n)) (Ends topmost span (suc n)) (InOpeningBody (suc n)) (Opens (suc n)) (body.Index span) (λ x g. done (indexed x) g) (λ x l. x)
     (stepSidx topmost span s f n b) (λ s' g z. (h .0, z)) (λ x g z. z) (step-sidx topmost span s f n b (h .1))
 
-close-opening : (n : ℕ) (branded : Bool) (r : Opened) (f : Flow) → Opens n r f → Over (λ x g. Read topmost n x) f (closeOpening branded r f n)
+close-opening : (n : ℕ) (branded : Bool) (r : OpeningGave) (f : Flow) → Opens n r f → Over (λ x g. Read topmost n x) f (closeOpening branded r f n)
 unfolding closeOpening
 close-opening n branded passed f h = tt
 close-opening n branded (indexed x) f h = h
 
-opening-box : (n brand : ℕ) (branded : Bool) (s : Box OpeningBody) (f : Flow) (b : ℕ) → InBox (InOpeningBody n) s f →
+opening-box : (n brand : ℕ) (branded : Bool) (s : BoxPhase OpeningBody) (f : Flow) (b : ℕ) → InBox (InOpeningBody n) s f →
     Unrefused (InOpening (suc n)) (λ x g. Read topmost (suc n) x) (stepBoxes (opening brand) wrapOpening branded s f n b)
 opening-box n brand branded s f b h =
     boxes-unrefused (opening brand) wrapOpening (InOpeningBody (suc n)) (Opens (suc n)) (InOpening (suc n)) (λ x g. Read topmost (suc n) x) (λ a h' g. tt) (λ a s' g z. z)
@@ -336,7 +336,7 @@ module _ (top : Top) (ls : Levels) (slot : Slot) (h : Fits ls (slot .end)) where
       (λ s'. record { span = s .span; sidx = s' }) done (λ x l. x) (stepSidx (under top slot (depth ls)) (s .span) (s .sidx) f n b) (λ s' g y. (z .0, y)) (λ x g y. y)
       (step-sidx (under top slot (depth ls)) (s .span) (s .sidx) f n b (z .1))
 
-  inner-wraps : (n : ℕ) (s : Box InnerBody) (f : Flow) → InBox (InInnerBody n) s f → InStage n (stage.Inner top ls slot (wrapInner s)) f
+  inner-wraps : (n : ℕ) (s : BoxPhase InnerBody) (f : Flow) → InBox (InInnerBody n) s f → InStage n (stage.Inner top ls slot (wrapInner s)) f
   inner-wraps n (inHead x) f z = (h, tt)
   inner-wraps n (inBody s) f z = (h, z)
 
@@ -344,7 +344,7 @@ module _ (top : Top) (ls : Levels) (slot : Slot) (h : Fits ls (slot .end)) where
   inner-ends n x f z =
       follow-fits top (push ls (innerLevel x slot)) f n (push-fits ls (innerLevel x slot) n h (omega (arith, to-come-most (innerLevel x slot))))
 
-  step-inner : (n : ℕ) (s : Box InnerBody) (f : Flow) (b : ℕ) → InBox (InInnerBody n) s f → Unrefused (InStage (suc n)) Any (stepInner top ls slot s f n b)
+  step-inner : (n : ℕ) (s : BoxPhase InnerBody) (f : Flow) (b : ℕ) → InBox (InInnerBody n) s f → Unrefused (InStage (suc n)) Any (stepInner top ls slot s f n b)
   step-inner n s f b z =
       lift-unrefused (InBox (InInnerBody (suc n))) (Inner-ends (suc n)) (InStage (suc n)) Any (λ s'. stage.Inner top ls slot (wrapInner s')) _ (λ x l. x)
       (stepBox (innerKind top slot (depth ls)) s f n b) (inner-wraps (suc n)) (inner-ends (suc n))
@@ -432,12 +432,12 @@ step-within (reading n s f) b h =
 step-within (ended n top kept) b h = tt
 step-within (refused n x kept) b h = tt
 
-run-within : (w : World) (bs : List ℕ) → InWorld w → InWorld (run w bs)
-unfolding run
+run-within : (w : World) (bs : List ℕ) → InWorld w → InWorld (stepAll w bs)
+unfolding stepAll
 run-within w [] h = h
 run-within w (b ∷ bs) h = run-within (step w b) bs (step-within w b h)
 
-pub start-past : (brand : ℕ) (bs work table : List ℕ) (s : Stage) (f : Flow) (b : ℕ) → run (reading 0 (stage0 brand) (flow0 work table)) bs ≡ reading limit s f →
+pub start-past : (brand : ℕ) (bs work table : List ℕ) (s : Stage) (f : Flow) (b : ℕ) → stepAll (reading 0 (stage0 brand) (flow0 work table)) bs ≡ reading limit s f →
     step (reading limit s f) b ≡ refused (suc limit) (refusal 3 limit) (left f)
 unfolding step shows unless lowest
 start-past brand bs work table s f b e =

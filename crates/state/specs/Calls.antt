@@ -12,7 +12,7 @@ use Rattle.state.specs.declared.FeedAnswer.the-variants as feeds
 use Rattle.state.specs.declared.FinishAnswer.{FinishAnswer}
 use Rattle.state.specs.declared.FinishAnswer.the-variants as finishes
 use Rattle.state.specs.Flow.{Flow, Left, workBytes}
-use Rattle.state.specs.Step.{World, reading, ended, refused, run, stage0}
+use Rattle.state.specs.Step.{World, reading, ended, refused, stepAll, stage0}
 use Rattle.state.specs.Ranges.{inRange}
 
 -- what a call answers and leaves
@@ -69,8 +69,8 @@ startOf brand = state.Reading 0 0 0 0 (stage0 brand)
 
 -- the kept refusal, row 22, then bytes
 unfoldable pub feedState : State → List ℕ → List ℕ → List ℕ → Out FeedAnswer
-feedState (state.Reading n leaves now last s) piece work table = fed (run (reading n s (flowOf leaves now last work table)) piece)
-feedState (state.Ended n leaves top) piece work table = fed (run (ended n top (leftOf leaves work table)) piece)
+feedState (state.Reading n leaves now last s) piece work table = fed (stepAll (reading n s (flowOf leaves now last work table)) piece)
+feedState (state.Ended n leaves top) piece work table = fed (stepAll (ended n top (leftOf leaves work table)) piece)
 feedState (state.Refused n leaves x) piece work table = out (feeds.Refused x) (state.Refused n leaves x) work table
 feedState (state.Accepted n leaves top) piece work table = out (feeds.Refused (refusal 22 0)) (state.Accepted n leaves top) work table
 

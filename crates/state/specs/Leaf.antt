@@ -8,7 +8,7 @@ use Rattle.segment.specs.Constants.{moof, traf}
 use Rattle.machine.specs.Faults.{shows}
 use Rattle.machine.specs.Run.{Sub, go, done, bad, lift}
 use Rattle.machine.specs.Heads.{boxEnd}
-use Rattle.machine.specs.Lists.{Box, inHead, inBody, Kind, Next, again, over, Boxes, stepBoxes, goOn}
+use Rattle.machine.specs.Lists.{BoxPhase, inHead, inBody, Kind, Next, again, over, Boxes, stepBoxes, goOn}
 use Rattle.machine.specs.declared.Refusal.{Refusal}
 use Rattle.machine.specs.declared.Header.{Header}
 use Rattle.machine.specs.declared.Head.the-variants as at
@@ -63,7 +63,7 @@ abbrev pub moofBoxes : ℕ → ℕ → Boxes Seen MoofBody Passed Seen Flow Left
 moofBoxes id end =
     record { kept = left; box = moofKind id end; close = λ seen r f n. moofNext end (seenNow seen r) n; beside = λ seen kept n. [] }
 
-abbrev pub wrapMoof : Seen → Box MoofBody → MoofBoxes
+abbrev pub wrapMoof : Seen → BoxPhase MoofBody → MoofBoxes
 wrapMoof seen (inHead h) = moofBox.Head seen h
 wrapMoof seen (inBody s) = moofBox.Body seen s
 
@@ -113,7 +113,7 @@ leafBoxes id slot =
       beside = λ so kept n. pick (eqb n (slot .end)) (leafLacks slot so kept) [];
     }
 
-abbrev pub wrapLeaf : LeafSo → Box LeafBody → LeafBoxes
+abbrev pub wrapLeaf : LeafSo → BoxPhase LeafBody → LeafBoxes
 wrapLeaf so (inHead h) = leafBox.Head so h
 wrapLeaf so (inBody s) = leafBox.Body so s
 

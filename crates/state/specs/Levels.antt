@@ -16,7 +16,7 @@ use Rattle.state.specs.declared.Levels.{Levels}
 use Rattle.state.specs.declared.Levels.the-variants as levels
 use Rattle.state.specs.declared.Slot.{Slot}
 use Rattle.state.specs.declared.StoredEntry.{StoredEntry}
-use Rattle.state.specs.Sidx.{sizeOf}
+use Rattle.state.specs.Sidx.{entrySize}
 
 -- an entry as it stands in the work area, 12 bytes from a place on
 abbrev pub wordAt : List ℕ → ℕ → ℕ
@@ -24,7 +24,7 @@ wordAt work i = number (take 4 (drop i work))
 
 unfoldable pub entryAt : List ℕ → ℕ → StoredEntry
 entryAt work i =
-    record { inner = leb typeBit (wordAt work i); size = sizeOf (wordAt work i); duration = wordAt work (i + 4); sap = wordAt work (i + 8) }
+    record { inner = leb typeBit (wordAt work i); size = entrySize (wordAt work i); duration = wordAt work (i + 4); sap = wordAt work (i + 8) }
 
 -- the innermost open index, and how many stand open
 unfoldable pub inmost : Levels → Level

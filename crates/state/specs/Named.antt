@@ -41,11 +41,11 @@ leavesOf (reading n s f) = f .leaves
 leavesOf (ended n top kept) = kept .leaves
 leavesOf (refused n x kept) = kept .leaves
 
-unfoldable pub leavesIn : State → ℕ
-leavesIn (state.Reading count leaves now last s) = leaves
-leavesIn (state.Ended count leaves top) = leaves
-leavesIn (state.Refused count leaves x) = leaves
-leavesIn (state.Accepted count leaves top) = leaves
+unfoldable pub leavesHeld : State → ℕ
+leavesHeld (state.Reading count leaves now last s) = leaves
+leavesHeld (state.Ended count leaves top) = leaves
+leavesHeld (state.Refused count leaves x) = leaves
+leavesHeld (state.Accepted count leaves top) = leaves
 
 -- A leaf table before and after, with so many leaves listed before and after: it is as long, no leaf is taken off the list, and the
 -- records listed before stay, and so do those past the ones listed after.

@@ -8,7 +8,7 @@ use Rattle.segment.specs.Constants.{limit, styp, sidx}
 use Rattle.machine.specs.Faults.{shows, unless}
 use Rattle.machine.specs.Run.{Sub, go, done, bad, lift}
 use Rattle.machine.specs.Heads.{boxEnd}
-use Rattle.machine.specs.Lists.{Box, inHead, inBody, Kind, Next, again, over, Boxes, stepBoxes}
+use Rattle.machine.specs.Lists.{BoxPhase, inHead, inBody, Kind, Next, again, over, Boxes, stepBoxes}
 use Rattle.machine.specs.declared.Refusal.{Refusal}
 use Rattle.machine.specs.declared.Header.{Header}
 use Rattle.state.specs.declared.Span.{Span}
@@ -24,12 +24,12 @@ use Rattle.state.specs.Rows.{is, openingFaults}
 use Rattle.state.specs.Sidx.{topmost, sidxStart, stepSidx}
 
 -- what a box up to the top index gives: it is passed, or it was the top index
-pub data Opened : Type 0 where
-  passed : Opened
-  indexed : Index → Opened
+pub data OpeningGave : Type 0 where
+  passed : OpeningGave
+  indexed : Index → OpeningGave
 
 abbrev Sub' : Type 0
-Sub' = Sub OpeningBody Opened Flow Left
+Sub' = Sub OpeningBody OpeningGave Flow Left
 
 abbrev pub spanOf : Header → Span
 spanOf h = record { pos = h .pos; end = boxEnd h }
@@ -65,19 +65,19 @@ stepOpeningBody brand (body.Styp span part listed zero acc) f n b = stypEnds bra
 stepOpeningBody brand (body.Styp span part listed (suc m) acc) f n b = go (body.Styp span part listed m (acc * 256 + b)) f
 stepOpeningBody brand (body.Index span s) f n b = lift (body.Index span) (λ x g. done (indexed x) g) bad (stepSidx topmost span s f n b)
 
-abbrev pub openingBox : ℕ → Bool → Kind OpeningBody Opened Flow Left
+abbrev pub openingBox : ℕ → Bool → Kind OpeningBody OpeningGave Flow Left
 openingBox brand branded =
     record { left = left; end = limit; shown = λ h f. openingFaults branded h; begin = beginOpening; body = stepOpeningBody brand }
 
 -- after `styp` or a skipped box others follow; the top index ends the list
-unfoldable pub closeOpening : Bool → Opened → Flow → ℕ → Next Bool Index
+unfoldable pub closeOpening : Bool → OpeningGave → Flow → ℕ → Next Bool Index
 closeOpening branded passed f n = again true []
 closeOpening branded (indexed x) f n = over x []
 
-abbrev pub opening : ℕ → Boxes Bool OpeningBody Opened Index Flow Left
+abbrev pub opening : ℕ → Boxes Bool OpeningBody OpeningGave Index Flow Left
 opening brand = record { kept = left; box = openingBox brand; close = closeOpening; beside = λ branded kept n. [] }
 
-abbrev pub wrapOpening : Bool → Box OpeningBody → OpeningBoxes
+abbrev pub wrapOpening : Bool → BoxPhase OpeningBody → OpeningBoxes
 wrapOpening branded (inHead h) = boxes.Head branded h
 wrapOpening branded (inBody s) = boxes.Body branded s
 

@@ -113,15 +113,15 @@ fieldEnds p span part.Count d v f n =
     (go (sidx.Entry entry.Size d (record { next = 0; count = v; sizes = 0; durations = 0 }) 3 0) f)
 
 -- an entry's word: type (1 bit) and size (31)
-abbrev pub sizeOf : ℕ → ℕ
-sizeOf word = word % typeBit
+abbrev pub entrySize : ℕ → ℕ
+entrySize word = word % typeBit
 
 -- row 11: entry size 0 (4th byte)
 abbrev pub entrySizeFaults : Span → ℕ → List Refusal
-entrySizeFaults span word = shows (eqb (sizeOf word) 0) 11 (span .pos)
+entrySizeFaults span word = shows (eqb (entrySize word) 0) 11 (span .pos)
 
 abbrev pub plusSize : Sums → ℕ → Sums
-plusSize s word = record { next = s .next; count = s .count; sizes = s .sizes + sizeOf word; durations = s .durations }
+plusSize s word = record { next = s .next; count = s .count; sizes = s .sizes + entrySize word; durations = s .durations }
 
 abbrev pub plusDuration : Sums → ℕ → Sums
 plusDuration s v = record { next = s .next; count = s .count; sizes = s .sizes; durations = s .durations + v }

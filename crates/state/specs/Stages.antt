@@ -8,7 +8,7 @@ use Rattle.basics.specs.Choose.{pick}
 use Rattle.machine.specs.Faults.{unless}
 use Rattle.machine.specs.Run.{Sub, go, done, bad, lift}
 use Rattle.machine.specs.Heads.{boxEnd}
-use Rattle.machine.specs.Lists.{Box, inHead, inBody, Kind, stepBox, Next, again, over, Boxes, stepBoxes}
+use Rattle.machine.specs.Lists.{BoxPhase, inHead, inBody, Kind, stepBox, Next, again, over, Boxes, stepBoxes}
 use Rattle.machine.specs.declared.Header.{Header}
 use Rattle.table.specs.declared.Record.{Record}
 use Rattle.machine.specs.declared.Head.the-variants as at
@@ -55,7 +55,7 @@ gapNext end n = pick (eqb n end) (over tt []) (again tt [])
 abbrev pub gapBoxes : ℕ → Boxes (Unit {0}) ℕ (Unit {0}) (Unit {0}) Flow Left
 gapBoxes end = record { kept = left; box = λ u. gapKind end; close = λ u r f n. gapNext end n; beside = λ u kept n. [] }
 
-abbrev pub wrapGap : Unit {0} → Box ℕ → GapBoxes
+abbrev pub wrapGap : Unit {0} → BoxPhase ℕ → GapBoxes
 wrapGap u (inHead h) = gaps.Head h
 wrapGap u (inBody stop) = gaps.Body stop
 
@@ -107,7 +107,7 @@ innerKind top slot around =
       body = λ s f n b. liftSidx (s .span) (stepSidx (under top slot around) (s .span) (s .sidx) f n b);
     }
 
-abbrev pub wrapInner : Box InnerBody → InnerBox
+abbrev pub wrapInner : BoxPhase InnerBody → InnerBox
 wrapInner (inHead h) = inners.Head h
 wrapInner (inBody s) = inners.Body (s .span) (s .sidx)
 
@@ -115,11 +115,11 @@ abbrev pub innerLevel : Index → Slot → Level
 innerLevel x slot = record { next = 0; count = x .count; end = slot .end; until = slot .until }
 
 -- after an inner index its entries follow, on the next level
-abbrev pub liftInner : Top → Levels → Slot → Sub (Box InnerBody) Index Flow Left → Sub'
+abbrev pub liftInner : Top → Levels → Slot → Sub (BoxPhase InnerBody) Index Flow Left → Sub'
 liftInner top ls slot r =
     lift (λ s. stage.Inner top ls slot (wrapInner s)) (λ x f. follow top (push ls (innerLevel x slot)) f) bad r
 
-abbrev pub stepInner : Top → Levels → Slot → Box InnerBody → Flow → ℕ → ℕ → Sub'
+abbrev pub stepInner : Top → Levels → Slot → BoxPhase InnerBody → Flow → ℕ → ℕ → Sub'
 stepInner top ls slot s f n b = liftInner top ls slot (stepBox (innerKind top slot (depth ls)) s f n b)
 
 -- the record of a leaf in its slot that starts at `now`, with its first decode time of the reference track

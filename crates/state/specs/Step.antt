@@ -59,9 +59,9 @@ step (ended n top kept) b = refused (suc n) (lowest (pastMaterial n) (pastLimit 
 step (refused n x kept) b = refused n x kept
 
 -- Run: the bytes one after the other
-unfoldable pub run : World → List ℕ → World
-run w [] = w
-run w (b ∷ bs) = run (step w b) bs
+unfoldable pub stepAll : World → List ℕ → World
+stepAll w [] = w
+stepAll w (b ∷ bs) = stepAll (step w b) bs
 
 abbrev pub stage0 : ℕ → Stage
 stage0 brand = stage.Opening brand (openings.Head false at.First)

@@ -8,7 +8,7 @@ use Rattle.segment.specs.Constants.{tfhd, tfdt}
 use Rattle.machine.specs.Faults.{shows, unless}
 use Rattle.machine.specs.Run.{Sub, go, done, bad}
 use Rattle.machine.specs.Heads.{boxEnd}
-use Rattle.machine.specs.Lists.{Box, inHead, inBody, Kind, Next, again, over, Boxes, stepBoxes, goOn}
+use Rattle.machine.specs.Lists.{BoxPhase, inHead, inBody, Kind, Next, again, over, Boxes, stepBoxes, goOn}
 use Rattle.machine.specs.declared.Refusal.{Refusal}
 use Rattle.machine.specs.declared.Header.{Header}
 use Rattle.state.specs.declared.Span.{Span}
@@ -111,7 +111,7 @@ trafBoxes id span =
       beside = λ so kept n. pick (eqb n (span .end)) (lacking (span .pos) (so .track)) [];
     }
 
-abbrev pub wrapTraf : TrafSo → Box TrafBody → TrafBoxes
+abbrev pub wrapTraf : TrafSo → BoxPhase TrafBody → TrafBoxes
 wrapTraf so (inHead h) = boxes.Head so h
 wrapTraf so (inBody s) = boxes.Body so s
 

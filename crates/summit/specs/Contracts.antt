@@ -8,7 +8,7 @@ use borrow.Fn.Kinds.{PK, RK, Dens, In, resT, endedOf}
 use borrow.Fn.Kinds as kinds
 use denote.Triple.Clauses.{Lasts}
 use Rattle.basics.specs.Bytes.{number}
-use Rattle.basics.specs.Outcome.{after}
+use Rattle.basics.specs.Outcome.{afterCall}
 use Rattle.state.specs.declared.FinishAnswer.{FinishAnswer}
 use Rattle.state.specs.Calls.{Out, out}
 use Rattle.state.specs.Parts.{Held, held}
@@ -28,7 +28,7 @@ pub record Call (n : ℕ) (ps : List (PK n)) (res : RK n) (Pre : In n ps) (Post 
   pub given : Dens lifetimes ps
   pub result : resT res lifetimes .Denot
   pub left : Lasts (endedOf n ps res) lifetimes given
-  pub promised : Pre lifetimes given → Post lifetimes given result (after n ps res lifetimes given left)
+  pub promised : Pre lifetimes given → Post lifetimes given result (afterCall n ps res lifetimes given left)
 
 abbrev pub StartCall : Type 0
 StartCall = Call 0 start-kinds.ps start-kinds.r start-stated.Pre start-stated.Post
