@@ -1,11 +1,11 @@
 -- The header of a box: a 32-bit size and a type; size 1 means that a 64-bit size follows the type.
-use Prim.Native.Nat.{ℕ, zero, suc, _+_, _*_}
+use Prim.Native.Nat.{ℕ, suc, _+_}
 use mathlib.Core.List.{List, [], _∷_, _++_}
 use lib.Dec.{eqb, ltb}
 use Rattle.basics.specs.Choose.{pick}
 use Rattle.basics.specs.Headers.{shortHeader, longHeader}
 use Rattle.machine.specs.Faults.{shows, unless}
-use Rattle.machine.specs.Run.{Sub, go, done, bad, Res, okay, fail, cut, fieldD, plain}
+use Rattle.machine.specs.Run.{Sub, go, done, bad, Res, okay, fail, cut, numberByte, fieldD, plain}
 use Rattle.machine.specs.declared.Refusal.{Refusal}
 use Rattle.machine.specs.declared.Header.{Header}
 use Rattle.machine.specs.declared.Head.{Head}
@@ -40,12 +40,10 @@ module _ {F L : Type 0} (left : F → L) (end : ℕ) where
 
   unfoldable pub stepHead : Head → F → ℕ → ℕ → Sub Head Header F L
   stepHead at.First f n b = unless (underEight end n) (λ x. bad x (left f)) (go (at.Size n 2 b) f)
-  stepHead (at.Size pos zero acc) f n b = go (at.Kind pos (acc * 256 + b) 3 0) f
-  stepHead (at.Size pos (suc m) acc) f n b = go (at.Size pos m (acc * 256 + b)) f
-  stepHead (at.Kind pos size zero acc) f n b = sized pos size (acc * 256 + b) f
-  stepHead (at.Kind pos size (suc m) acc) f n b = go (at.Kind pos size m (acc * 256 + b)) f
-  stepHead (at.Large pos kind zero acc) f n b = done (header pos kind (acc * 256 + b) longHeader) f
-  stepHead (at.Large pos kind (suc m) acc) f n b = go (at.Large pos kind m (acc * 256 + b)) f
+  stepHead (at.Size pos more acc) f n b = numberByte (λ m v. go (at.Size pos m v) f) (λ size. go (at.Kind pos size 3 0) f) more acc b
+  stepHead (at.Kind pos size more acc) f n b = numberByte (λ m v. go (at.Kind pos size m v) f) (λ kind. sized pos size kind f) more acc b
+  stepHead (at.Large pos kind more acc) f n b =
+      numberByte (λ m v. go (at.Large pos kind m v) f) (λ size. done (header pos kind size longHeader) f) more acc b
 
   -- by structure
   unfoldable pub sizedD : ℕ → ℕ → ℕ → F → ℕ → List ℕ → Res Header F L

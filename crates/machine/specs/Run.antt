@@ -47,6 +47,11 @@ lift wrap out worse (go s f) = go (wrap s) f
 lift wrap out worse (done r f) = out r f
 lift wrap out worse (bad x l) = worse x l
 
+-- A byte of a number: with bytes to follow it goes on, told how many and what is spelled so far; the last one ends it with what is spelled.
+abbrev pub numberByte : {X : Type 0} → (ℕ → ℕ → X) → (ℕ → X) → ℕ → ℕ → ℕ → X
+numberByte on ends zero acc b = ends (acc * 256 + b)
+numberByte on ends (suc m) acc b = on m (acc * 256 + b)
+
 -- A number of bytes, by structure: `keep` is what a byte leaves in what flows, told how many bytes of the number follow it.
 module _ {R F L : Type 0} (left : F → L) (keep : F → ℕ → ℕ → F) (k : ℕ → F → ℕ → List ℕ → Res R F L) where
   unfoldable pub fieldD : ℕ → ℕ → F → ℕ → List ℕ → Res R F L

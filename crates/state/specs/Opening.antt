@@ -1,12 +1,12 @@
 -- The boxes up to the top index: `styp`, skipped boxes, and the top index, which ends them.
-use Prim.Native.Nat.{ℕ, zero, suc, _+_, _*_}
+use Prim.Native.Nat.{ℕ, suc}
 use mathlib.Core.List.{List, []}
 use mathlib.Core.Bool.{Bool, true, false, not, _||_}
 use lib.Dec.{eqb, leb}
 use Rattle.basics.specs.Choose.{pick}
 use Rattle.segment.specs.Constants.{limit, styp, sidx}
 use Rattle.machine.specs.Faults.{shows, unless}
-use Rattle.machine.specs.Run.{Sub, go, done, bad, lift}
+use Rattle.machine.specs.Run.{Sub, go, done, bad, lift, numberByte}
 use Rattle.machine.specs.Heads.{boxEnd}
 use Rattle.machine.specs.Lists.{BoxPhase, inHead, inBody, Kind, Next, again, over, Boxes, stepBoxes}
 use Rattle.machine.specs.declared.Refusal.{Refusal}
@@ -61,8 +61,8 @@ beginOpening h f n =
 
 unfoldable pub stepOpeningBody : ℕ → OpeningBody → Flow → ℕ → ℕ → Sub'
 stepOpeningBody brand (body.Skip stop) f n b = skipOpening stop f (suc n)
-stepOpeningBody brand (body.Styp span part listed zero acc) f n b = stypEnds brand span part listed (acc * 256 + b) f (suc n)
-stepOpeningBody brand (body.Styp span part listed (suc m) acc) f n b = go (body.Styp span part listed m (acc * 256 + b)) f
+stepOpeningBody brand (body.Styp span part listed more acc) f n b =
+    numberByte (λ m v. go (body.Styp span part listed m v) f) (λ v. stypEnds brand span part listed v f (suc n)) more acc b
 stepOpeningBody brand (body.Index span s) f n b = lift (body.Index span) (λ x g. done (indexed x) g) bad (stepSidx topmost span s f n b)
 
 abbrev pub openingBox : ℕ → Bool → Kind OpeningBody OpeningGave Flow Left

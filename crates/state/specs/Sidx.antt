@@ -1,12 +1,12 @@
 -- An index box, the top one or an inner one: its numbers, and its entries, each byte stored as read.
-use Prim.Native.Nat.{ℕ, zero, suc, _+_, _-_, _*_, _%_}
+use Prim.Native.Nat.{ℕ, suc, _+_, _-_, _*_, _%_}
 use mathlib.Core.List.{List, [], _++_}
 use mathlib.Core.Bool.{Bool, true, false, not, _&&_, _||_}
 use lib.Dec.{eqb, ltb, leb}
 use Rattle.basics.specs.Choose.{pick}
 use Rattle.segment.specs.Constants.{limit, timeLimit, typeBit, entryBytes, mostEntries}
 use Rattle.machine.specs.Faults.{shows, unless}
-use Rattle.machine.specs.Run.{Sub, go, done, bad}
+use Rattle.machine.specs.Run.{Sub, go, done, bad, numberByte}
 use Rattle.machine.specs.declared.Refusal.{Refusal}
 use Rattle.state.specs.declared.Span.{Span}
 use Rattle.state.specs.declared.Draft.{Draft}
@@ -157,7 +157,6 @@ abbrev pub keepByte : Place → EntryPart → Sums → Flow → ℕ → ℕ → 
 keepByte p e s f more b = stored f (bytePlace p e s more) b
 
 unfoldable pub stepSidx : Place → Span → Sidx → Flow → ℕ → ℕ → Sub'
-stepSidx p span (sidx.Field i d zero acc) f n b = fieldEnds p span i d (acc * 256 + b) f (suc n)
-stepSidx p span (sidx.Field i d (suc m) acc) f n b = go (sidx.Field i d m (acc * 256 + b)) f
-stepSidx p span (sidx.Entry e d s zero acc) f n b = entryEnds p span e d s (acc * 256 + b) (keepByte p e s f 0 b) (suc n)
-stepSidx p span (sidx.Entry e d s (suc m) acc) f n b = go (sidx.Entry e d s m (acc * 256 + b)) (keepByte p e s f (suc m) b)
+stepSidx p span (sidx.Field i d more acc) f n b = numberByte (λ m v. go (sidx.Field i d m v) f) (λ v. fieldEnds p span i d v f (suc n)) more acc b
+stepSidx p span (sidx.Entry e d s more acc) f n b =
+    numberByte (λ m v. go (sidx.Entry e d s m v) (keepByte p e s f more b)) (λ v. entryEnds p span e d s v (keepByte p e s f more b) (suc n)) more acc b

@@ -1,12 +1,12 @@
 -- A `traf`: one `tfhd`, then one `tfdt`, and no `tfad`.
-use Prim.Native.Nat.{ℕ, zero, suc, _+_, _*_}
+use Prim.Native.Nat.{ℕ, suc, _+_}
 use mathlib.Core.List.{List, [], _++_}
 use mathlib.Core.Bool.{Bool, true, false, not, _&&_, _||_}
 use lib.Dec.{eqb, ltb, leb}
 use Rattle.basics.specs.Choose.{pick}
 use Rattle.segment.specs.Constants.{tfhd, tfdt}
 use Rattle.machine.specs.Faults.{shows, unless}
-use Rattle.machine.specs.Run.{Sub, go, done, bad}
+use Rattle.machine.specs.Run.{Sub, go, done, bad, numberByte}
 use Rattle.machine.specs.Heads.{boxEnd}
 use Rattle.machine.specs.Lists.{BoxPhase, inHead, inBody, Kind, Next, again, over, Boxes, stepBoxes, goOn}
 use Rattle.machine.specs.declared.Refusal.{Refusal}
@@ -75,8 +75,7 @@ beginTraf h f n =
 unfoldable pub stepTrafBody : ℕ → Track → TrafBody → Flow → ℕ → ℕ → Sub'
 stepTrafBody id t (body.Skip stop) f n b = skipTraf nothing body.Skip stop f (suc n)
 stepTrafBody id t (body.Rest stop r) f n b = restFrom stop r f (suc n)
-stepTrafBody id t (body.Field p zero acc) f n b = trafEnds id t p (acc * 256 + b) f (suc n)
-stepTrafBody id t (body.Field p (suc m) acc) f n b = go (body.Field p m (acc * 256 + b)) f
+stepTrafBody id t (body.Field p more acc) f n b = numberByte (λ m v. go (body.Field p m v) f) (λ v. trafEnds id t p v f (suc n)) more acc b
 
 abbrev pub trafBox : ℕ → ℕ → TrafSo → Kind TrafBody Gave Flow Left
 trafBox id end so =
