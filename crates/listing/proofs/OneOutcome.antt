@@ -18,7 +18,7 @@ heading-once = record { asks-nothing = λ κs given. tt; outcomes-coincide = λ 
 pub refused-once : OneOutcome 0 refused-kinds.ps refused-kinds.r refused-stated.Pre refused-stated.Post
 refused-once = record { asks-nothing = λ κs given. tt; outcomes-coincide = λ κs given r r' left left' p q. (p ∙ sym q, refl) }
 
--- of one leaf number and six numbers: one line
+-- of one leaf number and record: one line
 pub leaf-once : OneOutcome 0 leaf-kinds.ps leaf-kinds.r leaf-stated.Pre leaf-stated.Post
 leaf-once = record { asks-nothing = λ κs given. tt; outcomes-coincide = λ κs given r r' left left' p q. (p ∙ sym q, refl) }
 

@@ -1,10 +1,10 @@
 -- Which lists of bytes are segments, and with which leaves: rules 1 to 7 over the whole list.
 --
---   rule 1   `topIndex`, `firstIndex`; the gap: `gapBoxes`
+--   rule 1   `topIndex`, `firstIndex`; the gap: `boxesOfGap`
 --   rule 2   `material`
 --   rule 3   `tile`, `entryParts`; the same rule at every level: `underIndex`; at most 4 levels: `levels`, in `segmentParts`
 --   rule 4   `innerIndex`, `suitsEntry`
---   rule 5   specs `Leaves`, `leafBoxes`
+--   rule 5   specs `Leaves`, `boxesOfLeaf`
 --   rule 6   specs `Leaves`, `trafTimes`, `leafTimes`; through the segment: `neverFall`, in `segmentParts`
 --   rule 7   the order of `leavesIn`; when each starts: `segmentParts`, `tile`; what it covers: `covers`
 --   limits   of bytes: `limit`; of times: `timeLimit`; of levels: `levels`; all in `segmentParts`
