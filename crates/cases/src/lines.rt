@@ -12,7 +12,7 @@ use cases_trial::prints::print;
 use cases_trial::prints::print_number;
 
 // What a file's lines are.
-pub enum Kind {
+pub enum LineKind {
     // name, segment
     Made,
     // segment and listing; these have no name, and are counted
@@ -23,18 +23,18 @@ pub enum Kind {
     Script,
 }
 
-fn load(kind: Kind, line: &[u8], into: &mut [u8]) -> usize {
+fn load(kind: LineKind, line: &[u8], into: &mut [u8]) -> usize {
     match kind {
-        Kind::Made => decode(field(line, 1), into),
-        Kind::Vector => decode(field(line, 0), into),
-        Kind::Real => read_file(field(line, 0), into),
-        Kind::Script => decode(field(line, 1), into),
+        LineKind::Made => decode(field(line, 1), into),
+        LineKind::Vector => decode(field(line, 0), into),
+        LineKind::Real => read_file(field(line, 0), into),
+        LineKind::Script => decode(field(line, 1), into),
     }
 }
 
-fn print_name(kind: Kind, line: &[u8], k: u64) {
+fn print_name(kind: LineKind, line: &[u8], k: u64) {
     match kind {
-        Kind::Vector => {
+        LineKind::Vector => {
             print(b"vector ");
             print_number(k);
         }
@@ -44,18 +44,18 @@ fn print_name(kind: Kind, line: &[u8], k: u64) {
 }
 
 // Of a segment of n bytes; in a script, what follows it may be fed too, zeros among it.
-fn run_case(kind: Kind, line: &[u8], bytes: &[u8], n: usize, tally: Tally) -> Tally {
+fn run_case(kind: LineKind, line: &[u8], bytes: &[u8], n: usize, tally: Tally) -> Tally {
     match kind {
-        Kind::Script => {
+        LineKind::Script => {
             run_script(field(line, 2), field(line, 3), bytes);
             tally
         }
-        Kind::Made => run_segment(part(bytes, 0, n), true, tally),
+        LineKind::Made => run_segment(part(bytes, 0, n), true, tally),
         _ => run_segment(part(bytes, 0, n), false, tally),
     }
 }
 
-fn run_line(kind: Kind, line: &[u8], k: u64, into: &mut [u8], tally: Tally) -> Tally {
+fn run_line(kind: LineKind, line: &[u8], k: u64, into: &mut [u8], tally: Tally) -> Tally {
     print_name(kind, line, k);
     let n = load(kind, line, into);
     let after = run_case(kind, line, into, n, tally);
@@ -63,7 +63,7 @@ fn run_line(kind: Kind, line: &[u8], k: u64, into: &mut [u8], tally: Tally) -> T
     after
 }
 
-pub fn run_lines(kind: Kind, text: &[u8], into: &mut [u8], before: Tally) -> Tally {
+pub fn run_lines(kind: LineKind, text: &[u8], into: &mut [u8], before: Tally) -> Tally {
     let mut tally = before;
     let mut from = 0;
     let mut k = 0;

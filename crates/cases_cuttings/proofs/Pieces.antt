@@ -13,7 +13,7 @@ use Rattle.state.specs.declared.FeedAnswer.{FeedAnswer}
 use Rattle.cases_data.specs.Parts.{bytesFrom}
 use Rattle.cases_trial.specs.Ends.{answerAt}
 use Rattle.cases_trial.specs.declared.alike.End.{End}
-use Rattle.state.specs.Parts.{Held, heldAfter, feedHeld}
+use Rattle.state.specs.Cutting.{Held, heldAfter, feedHeld}
 use Rattle.cases_cuttings.specs.Readings.{fedPieces, Answer, ReadsAlike}
 
 -- both of two tests

@@ -7,7 +7,7 @@ use mathlib.Core.List.{List, [], _∷_}
 use lib.ListN.{length, take, replicate}
 use Rattle.basics.specs.Bytes.{number}
 use Rattle.state.specs.Calls.{Out, startOf, feedOf, finishOf}
-use Rattle.state.specs.Parts.{Held, held, heldAfter, feedHeld}
+use Rattle.state.specs.Cutting.{Held, held, heldAfter, feedHeld}
 use Rattle.state.specs.declared.State.{State}
 use Rattle.state.specs.declared.FeedAnswer.{FeedAnswer}
 use Rattle.cases_data.specs.Parts.{bytesFrom, SameLevels, SameNumbers}

@@ -9,7 +9,7 @@ use Rattle.state.specs.declared.FeedAnswer.{FeedAnswer}
 use Rattle.state.specs.declared.FeedAnswer.the-variants as feeds
 use Rattle.state.specs.declared.FinishAnswer.{FinishAnswer}
 use Rattle.state.specs.declared.FinishAnswer.the-variants as finishes
-use Rattle.cases_trial.specs.declared.alike.Left.{Left}
+use Rattle.cases_trial.specs.declared.alike.Ending.{Ending}
 use Rattle.cases_trial.specs.declared.alike.End.{End}
 
 pub refusals : (a b : Refusal) → ((a .number ≡ b .number) × (a .place ≡ b .place)) ↔ (a ≡ b)
@@ -22,12 +22,12 @@ tops a b = (
 )
 
 pub lefts :
-    (a b : Left)
+    (a b : Ending)
     → (((((a .outcome ≡ b .outcome) × (a .count ≡ b .count)) × (a .leaves ≡ b .leaves)) × (a .refusal ≡ b .refusal)) × (a .top ≡ b .top)) ↔ (a ≡ b)
 lefts a b = (
   λ w i. record { outcome = w .0 .0 .0 .0 i; count = w .0 .0 .0 .1 i; leaves = w .0 .0 .1 i; refusal = w .0 .1 i; top = w .1 i },
   λ e.
-      ((((ap (λ (x : Left). x .outcome) e, ap (λ (x : Left). x .count) e), ap (λ (x : Left). x .leaves) e), ap (λ (x : Left). x .refusal) e), ap (λ (x : Left). x .top) e),
+      ((((ap (λ (x : Ending). x .outcome) e, ap (λ (x : Ending). x .count) e), ap (λ (x : Ending). x .leaves) e), ap (λ (x : Ending). x .refusal) e), ap (λ (x : Ending). x .top) e),
 )
 
 pub ends : (a b : End) → ((a .answer ≡ b .answer) × (a .left ≡ b .left)) ↔ (a ≡ b)

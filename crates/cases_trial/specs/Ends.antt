@@ -11,10 +11,10 @@ use Rattle.state.specs.declared.State.{State}
 use Rattle.state.specs.declared.State.the-variants as state
 use Rattle.state.specs.declared.Top.{Top}
 use Rattle.cases_trial.specs.declared.alike.End.{End}
-use Rattle.cases_trial.specs.declared.alike.Left.{Left}
+use Rattle.cases_trial.specs.declared.alike.Ending.{Ending}
 
 -- what a state holds: its outcome (0 it goes on, 1 the material is over, 2 refused, 3 accepted), counts, refusal and top
-abbrev pub leftAs : ℕ → ℕ → ℕ → Refusal → Top → Left
+abbrev pub leftAs : ℕ → ℕ → ℕ → Refusal → Top → Ending
 leftAs outcome count leaves refusal top = record { outcome = outcome; count = count; leaves = leaves; refusal = refusal; top = top }
 
 abbrev pub noRefusal : Refusal
@@ -24,7 +24,7 @@ abbrev pub noTop : Top
 noTop = record { id = 0; scale = 0; start = 0; durations = 0 }
 
 -- a state as numbers; of a reading that goes on, the stage and its times are left out
-unfoldable pub leftBy : State → Left
+unfoldable pub leftBy : State → Ending
 leftBy (state.Reading count leaves now last stage) = leftAs 0 count leaves noRefusal noTop
 leftBy (state.Ended count leaves top) = leftAs 1 count leaves noRefusal top
 leftBy (state.Refused count leaves refusal) = leftAs 2 count leaves refusal noTop

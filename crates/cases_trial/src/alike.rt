@@ -24,7 +24,7 @@ const REFUSED: u64 = 2;
 const ACCEPTED: u64 = 3;
 
 // A state as numbers. Of a reading that goes on, the stage is left out.
-pub struct Left {
+pub struct Ending {
     outcome: u64,
     count: u64,
     leaves: u64,
@@ -35,7 +35,7 @@ pub struct Left {
 // What finish answered, and what it left.
 pub struct End {
     pub answer: FinishAnswer,
-    left: Left,
+    left: Ending,
 }
 
 fn no_refusal() -> Refusal
@@ -58,10 +58,10 @@ fn no_top() -> Top
     }
 }
 
-fn left_as(outcome: u64, count: u64, leaves: u64, refusal: Refusal, top: Top) -> Left
+fn left_as(outcome: u64, count: u64, leaves: u64, refusal: Refusal, top: Top) -> Ending
     ensures { λ r. ⌜ r ≡ leftAs outcome count leaves refusal top ⌝ }
 {
-    Left {
+    Ending {
         outcome,
         count,
         leaves,
@@ -70,7 +70,7 @@ fn left_as(outcome: u64, count: u64, leaves: u64, refusal: Refusal, top: Top) ->
     }
 }
 
-fn left_by(s: State) -> Left
+fn left_by(s: State) -> Ending
     ensures { λ r. ⌜ r ≡ leftBy s ⌝ }
 {
     match s {
@@ -123,7 +123,7 @@ fn same_top(a: Top, b: Top) -> bool
     a.id == b.id && a.scale == b.scale && a.start == b.start && a.durations == b.durations
 }
 
-fn same_left(a: Left, b: Left) -> bool
+fn same_left(a: Ending, b: Ending) -> bool
     ensures { λ r. ⌜ (r ≡ true) ↔ (a ≡ b) ⌝ }
 {
     let x = a.refusal;

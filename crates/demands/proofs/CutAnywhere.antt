@@ -23,7 +23,7 @@ use Rattle.table.specs.Table.{room}
 use Rattle.state.specs.Step.{World, reading, ended, refused, stepAll, stage0, flow0}
 use Rattle.state.specs.Ranges.{inRange}
 use Rattle.state.specs.Calls.{Out, out, stateOf, workOf, tableOf, answerOf, fed, startOf, feedState, feedOf, finishState, finishAfter, wholeOf}
-use Rattle.state.specs.Parts.{Held, held, heldAfter, feedHeld, finishHeld, feedAll, joined}
+use Rattle.state.specs.Cutting.{Held, held, heldAfter, feedHeld, finishHeld, feedAll, joined}
 use Rattle.state.proofs.RangeTests.{in-range}
 use Rattle.state.proofs.Ranges.{start-in-range, run-kept}
 use Rattle.state.proofs.Cuts.{feed-short, feed-inside, cutting}

@@ -21,7 +21,7 @@ use Rattle.state.specs.declared.Top.{Top}
 use Rattle.state.specs.declared.Span.{Span}
 use Rattle.state.specs.declared.Level.{Level}
 use Rattle.state.specs.declared.Slot.{Slot}
-use Rattle.state.specs.declared.Index.{Index}
+use Rattle.state.specs.declared.IndexRead.{IndexRead}
 use Rattle.state.specs.Flow.{Flow, Left, workBytes, levelBytes}
 use Rattle.basics.specs.Put.{putAll}
 use Rattle.state.specs.Rows.{innerFaults}
@@ -54,8 +54,8 @@ suits-inner top slot d span o now n dur all sc se sl su =
 
 -- The first box of an index entry is read where rule 4 allows it.
 module _ {X : Type 0} (top : Top) (slot : Slot) (d : ℕ) (f : Flow) (n dur : ℕ) (xs ys : List ℕ) (shallow : d < 4) (ends : slot .end ≡ n + length xs) (lasts : slot .until ≡ f .now + dur)
-    (k : Index → Flow → ℕ → List ℕ → Option X) where
-  abbrev bodyAt : Header → Flow → ℕ → List ℕ → Res Index Flow Left
+    (k : IndexRead → Flow → ℕ → List ℕ → Option X) where
+  abbrev bodyAt : Header → Flow → ℕ → List ℕ → Res IndexRead Flow Left
   bodyAt h g m cs = sidxD (under top slot d) (spanOf h) g m cs
 
   -- what is made of an index of the tree
@@ -104,7 +104,7 @@ module _ (X : Type 0) (top : Top) (k depth : ℕ) (one : 1 ≤ depth) (shallow :
     abbrev slot : Slot
     slot = slotOf (entryFrom e) (f .now) n
 
-    abbrev below : Index → Flow → ℕ → List ℕ → Verdict X
+    abbrev below : IndexRead → Flow → ℕ → List ℕ → Verdict X
     below x f' m cs = judge (underD (suc k) top (suc depth) (innerLevel x slot) f' m cs) h
 
     abbrev said : List Part → Verdict X

@@ -28,7 +28,7 @@ use Rattle.machine.proofs.Runs.{okay-more}
 use Rattle.state.specs.declared.Top.{Top}
 use Rattle.state.specs.declared.Level.{Level}
 use Rattle.state.specs.declared.Levels.the-variants as levels
-use Rattle.state.specs.declared.Index.{Index}
+use Rattle.state.specs.declared.IndexRead.{IndexRead}
 use Rattle.state.specs.declared.FinishAnswer.the-variants as finishes
 use Rattle.state.specs.Flow.{Flow, Left, left, withNow, workBytes, levelBytes}
 use Rattle.basics.specs.Put.{putAll}
@@ -82,7 +82,7 @@ module _ (o : Opened) (f0 : Flow) (n : ℕ) (read : tree.sidxIndex (o .box .body
   abbrev body : List ℕ
   body = o .box .body
 
-  abbrev x : Index
+  abbrev x : IndexRead
   x = indexFrom i
 
   abbrev top : Top
@@ -270,7 +270,7 @@ module _ (brand : ℕ) (xs work table : List ℕ) (small : length xs ≤ limit) 
   abbrev f0 : Flow
   f0 = flow0 work table
 
-  abbrev after-top : Index → Flow → ℕ → List ℕ → Verdict Listing
+  abbrev after-top : IndexRead → Flow → ℕ → List ℕ → Verdict Listing
   after-top x g m cs = judge (materialD x g m cs) final
 
   -- what the reading makes of a top index, and what the tree does

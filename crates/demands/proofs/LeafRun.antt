@@ -20,7 +20,7 @@ use Rattle.machine.proofs.Lists.{boxes-run, go-on-run}
 use Rattle.state.specs.declared.Span.{Span}
 use Rattle.state.specs.declared.Seen.{Seen}
 use Rattle.state.specs.declared.Slot.{Slot}
-use Rattle.state.specs.declared.Track.{Track}
+use Rattle.state.specs.declared.TrafPhase.{TrafPhase}
 use Rattle.state.specs.declared.TrafSo.{TrafSo}
 use Rattle.state.specs.declared.TrafPart.{TrafPart}
 use Rattle.state.specs.declared.TrafPart.the-variants as part
@@ -41,7 +41,7 @@ use Rattle.state.specs.Traf.{Gave, nothing, headed, tfdtVersionFaults, referenc
 use Rattle.state.specs.Leaf.{Passed, skipped, seeing, beginMoof, stepMoofBody, moofNext, moofBoxes, wrapMoof, stepMoof, beginMoofBoxes, beginLeaf, stepLeafBody, leafBoxes, wrapLeaf, stepLeaf, leafSo0}
 use Rattle.descent.specs.Leaf.{tfhdD, widthD, tfdtD, trafBodyD, trafD, moofBodyD, moofD, leafBodyD, leafD}
 
-module _ (id : ℕ) (t : Track) where
+module _ (id : ℕ) (t : TrafPhase) where
   abbrev T : ℕ → List ℕ → Sub TrafBody Gave Flow Left → Res Gave Flow Left
   T n bs r = cont left (stepTrafBody id t) n bs r
 

@@ -30,7 +30,7 @@ use Rattle.machine.proofs.Readings.{Says, says-okay, says-either, says-box}
 use Rattle.state.specs.declared.Span.{Span}
 use Rattle.state.specs.declared.Seen.{Seen}
 use Rattle.state.specs.declared.Slot.{Slot}
-use Rattle.state.specs.declared.Track.{Track}
+use Rattle.state.specs.declared.TrafPhase.{TrafPhase}
 use Rattle.state.specs.Flow.{Flow, Left, left}
 use Rattle.state.specs.Rows.{is, bodyLength, topLengths, leafFaults, noRoom, trafFaults}
 use Rattle.state.specs.Opening.{spanOf}
@@ -153,7 +153,7 @@ module _ {X : Type 0} (f : Flow) (k : Gave → Flow → ℕ → List ℕ → Opt
       ∙ ap (λ o. pick (eqb (length (flags .rest)) w) o none) (then-assoc (field w (flags .rest)) _ _)))))
 
 -- a `tfhd` or a `tfdt` that shows no fault has 8 bytes
-traf-sound : (t : Track) (h : Header) → clean (trafFaults t h) ≡ true → is h tfhd || is h tfdt ≡ true → 8 ≤ bodyLength h
+traf-sound : (t : TrafPhase) (h : Header) → clean (trafFaults t h) ≡ true → is h tfhd || is h tfdt ≡ true → 8 ≤ bodyLength h
 traf-sound t h e q =
     let p : not ((is h tfhd || is h tfdt) && ltb (bodyLength h) 8) ≡ true = and-both _ _ (sym (traf-faults t h) ∙ e) .0 in
     ltb-false (bodyLength h) 8 (not-true (ltb (bodyLength h) 8) (rw q at p))
@@ -176,7 +176,7 @@ passing (some ts) seen k = sym (then-assoc (climb seen ts) _ k)
 
 module _ {X : Type 0} (f : Flow) where
   -- the body of a box in a `traf`
-  traf-body : (id : ℕ) (t : Track) (b : Box) (pos : ℕ) (zs : List ℕ) (k : Gave → Flow → ℕ → List ℕ → Option X) → headLength b + length (b .body) ≡ b .size →
+  traf-body : (id : ℕ) (t : TrafPhase) (b : Box) (pos : ℕ) (zs : List ℕ) (k : Gave → Flow → ℕ → List ℕ → Option X) → headLength b + length (b .body) ≡ b .size →
       clean (trafFaults t (headerOf pos b)) ≡ true →
       upon (trafBodyD id t (headerOf pos b) f (pos + headLength b) (b .body ++ zs)) k ≡ andThen (trafItem id t pos b) (λ r. k r f (pos + b .size) zs)
   unfolding trafBodyD trafItem andThen

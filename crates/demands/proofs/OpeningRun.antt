@@ -18,7 +18,7 @@ use Rattle.machine.proofs.Runs.{inside}
 use Rattle.machine.proofs.Fields.{field-within, skip-run}
 use Rattle.machine.proofs.Lists.{boxes-run}
 use Rattle.state.specs.declared.Span.{Span}
-use Rattle.state.specs.declared.Index.{Index}
+use Rattle.state.specs.declared.IndexRead.{IndexRead}
 use Rattle.state.specs.declared.StypPart.{StypPart}
 use Rattle.state.specs.declared.StypPart.the-variants as styps
 use Rattle.state.specs.declared.OpeningBody.{OpeningBody}
@@ -67,7 +67,7 @@ module _ (brand : ℕ) where
   opening-body h f n bs =
       pick-both (is h styp) (λ r. r) (O n bs) _ _ _ _ (styp-run (spanOf h) f n bs)
       (pick-both (is h sidx) (λ r. r) (O n bs) _ _ _ _
-      (ap (λ (r : Res Index Flow Left). after r (λ x g m cs. okay (indexed x) g m cs)) (sidx-run topmost (spanOf h) f n bs) ∙ index-run (spanOf h) f n bs)
+      (ap (λ (r : Res IndexRead Flow Left). after r (λ x g m cs. okay (indexed x) g m cs)) (sidx-run topmost (spanOf h) f n bs) ∙ index-run (spanOf h) f n bs)
       (skip-run left (stepOpeningBody brand) (boxEnd h) (body.Skip (boxEnd h)) passed (λ g m b. refl) f n bs))
 
   pub opening-run : (f : Flow) (n : ℕ) (bs : List ℕ) → openingD brand f n bs ≡ run left (stepOpening brand) (boxes.Head false at.First) f n bs

@@ -22,11 +22,11 @@ use Rattle.machine.specs.Lists.{boxD, goOnD, boxesD}
 use Rattle.machine.specs.declared.Header.{Header}
 use Rattle.machine.proofs.Fields.{skip-short}
 use Rattle.state.specs.declared.Span.{Span}
-use Rattle.state.specs.declared.Index.{Index}
+use Rattle.state.specs.declared.IndexRead.{IndexRead}
 use Rattle.state.specs.Flow.{Flow, Left, left}
 use Rattle.state.specs.Rows.{is, bodyLength, openingFaults}
 use Rattle.state.specs.Sidx.{topmost, sumFaults}
-use Rattle.state.specs.Opening.{OpeningGave, passed, indexed, spanOf, openingBox, closeOpening, opening}
+use Rattle.state.specs.Opening.{OpeningGave, passed, indexed, spanOf, openingKind, closeOpening, opening}
 use Rattle.descent.specs.Sidx.{sidxD}
 use Rattle.descent.specs.Opening.{skipTo, stypD, openingBodyD, openingD}
 use Rattle.demands.specs.Told.{upon, clean, headLength, headerOf, indexFrom, withEntries}
@@ -48,11 +48,11 @@ pub body-long : (n : ℕ) (xs : List ℕ) (b : Box) → FirstBox xs b → bodyLe
 body-long n xs b fb = omega (arith, fb .bodied)
 
 -- the sums of the top index: the material ends within the limit, and its times are below theirs
-pub top-sums : (span : Span) (x : Index) (now n : ℕ) → clean (sumFaults topmost span x now n) ≡ not (ltb limit (n + x .offset + x .sizes) || leb timeLimit (x .time + x .durations))
+pub top-sums : (span : Span) (x : IndexRead) (now n : ℕ) → clean (sumFaults topmost span x now n) ≡ not (ltb limit (n + x .offset + x .sizes) || leb timeLimit (x .time + x .durations))
 unfolding sumFaults
 top-sums span x now n = clean-shows (ltb limit (n + x .offset + x .sizes) || leb timeLimit (x .time + x .durations)) 14 (span .pos)
 
-module _ {X : Type 0} (f : Flow) (k : Index → Flow → ℕ → List ℕ → Option X) where
+module _ {X : Type 0} (f : Flow) (k : IndexRead → Flow → ℕ → List ℕ → Option X) where
   -- what is made of the top index: where its box stands, its body, what it says, and what follows it
   abbrev pub fromTop : Span → List ℕ → BoxesIndex → List ℕ → Option X
   fromTop span body i rest =
@@ -63,7 +63,7 @@ module _ {X : Type 0} (f : Flow) (k : Index → Flow → ℕ → List ℕ → Op
   atTop all top = fromTop (topSpan all top) (top .box .body) (top .index) (top .rest)
 
 -- the top index, its body all there
-top-fitting : {X : Type 0} (f : Flow) (k : Index → Flow → ℕ → List ℕ → Option X) (span : Span) (n : ℕ) (xs ys : List ℕ) → n + length xs ≡ span .end →
+top-fitting : {X : Type 0} (f : Flow) (k : IndexRead → Flow → ℕ → List ℕ → Option X) (span : Span) (n : ℕ) (xs ys : List ℕ) → n + length xs ≡ span .end →
     pick (not (ltb (length xs) 24)) (upon (sidxD topmost span f n (xs ++ ys)) k) none ≡ andThen (sidxIndex xs) (λ i. fromTop f k span xs i ys)
 top-fitting f k span n xs ys e =
     sidx-fitting topmost span f n xs ys k e
@@ -88,9 +88,9 @@ module _ {X : Type 0} (brand : ℕ) (f : Flow) where
       (λ e'. upon-after (sidxD topmost (spanOf h) f m cs) (λ x g n ds. okay (indexed x) g n ds) K ∙ sidx-cut topmost (spanOf h) f m cs (λ x g n ds. K (indexed x) g n ds) l)
       (λ e'. ap (λ (r : Res (Unit {0}) Flow Left). upon (after r (λ u g n ds. okay passed g n ds)) K) (skip-short left (boxEnd h - m) f m cs (omega arith))))
 
-  module _ (k : Index → Flow → ℕ → List ℕ → Option X) where
+  module _ (k : IndexRead → Flow → ℕ → List ℕ → Option X) where
     -- the boxes from a place on, with so many turns
-    abbrev boxesFrom : ℕ → Bool → ℕ → List ℕ → Res Index Flow Left
+    abbrev boxesFrom : ℕ → Bool → ℕ → List ℕ → Res IndexRead Flow Left
     boxesFrom turns branded n bs = boxesD (opening brand) (λ b. openingBodyD brand) turns branded f n bs
 
     -- what is made of a box
@@ -105,8 +105,8 @@ module _ {X : Type 0} (brand : ℕ) (f : Flow) where
     one-box : (turns : ℕ) (branded : Bool) (n : ℕ) (bs : List ℕ) → n + length bs ≤ limit → upon (boxesFrom (suc turns) branded n bs) k ≡ andThen (firstBox bs) (onBox turns branded n bs)
     unfolding boxesD upon
     one-box turns branded n bs l =
-        upon-either (boxD (openingBox brand branded) (openingBodyD brand) f n bs) _ _ k (λ x kept m. refl)
-        ∙ box-open (openingBox brand branded) refl (openingBodyD brand) f n bs (next turns branded) l (λ h m cs q. body-cut (next turns branded) h m cs q)
+        upon-either (boxD (openingKind brand branded) (openingBodyD brand) f n bs) _ _ k (λ x kept m. refl)
+        ∙ box-open (openingKind brand branded) refl (openingBodyD brand) f n bs (next turns branded) l (λ h m cs q. body-cut (next turns branded) h m cs q)
 
     module _ (turns : ℕ) (branded : Bool) (n : ℕ) (bs : List ℕ) (b : Box) (fb : FirstBox bs b) where
       -- a body of each kind

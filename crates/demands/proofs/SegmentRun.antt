@@ -28,7 +28,7 @@ use Rattle.state.specs.declared.Level.{Level}
 use Rattle.state.specs.declared.Levels.{Levels}
 use Rattle.state.specs.declared.Levels.the-variants as levels
 use Rattle.state.specs.declared.Slot.{Slot}
-use Rattle.state.specs.declared.Index.{Index}
+use Rattle.state.specs.declared.IndexRead.{IndexRead}
 use Rattle.state.specs.declared.GapBoxes.{GapBoxes}
 use Rattle.state.specs.declared.GapBoxes.the-variants as gaps
 use Rattle.state.specs.declared.OpeningBoxes.{OpeningBoxes}
@@ -50,7 +50,7 @@ use Rattle.state.specs.Step.{stage0}
 use Rattle.descent.specs.Sidx.{sidxD}
 use Rattle.descent.specs.Opening.{skipTo}
 use Rattle.descent.specs.Leaf.{leafD}
-use Rattle.descent.specs.Whole.{gapD, UnderD, innerD, slotD, readBackD, entryD, entriesD, underD, materialD, segmentD}
+use Rattle.descent.specs.Whole.{gapD, UnderD, innerD, slotD, readBackD, entryPartD, entryPartsD, underD, materialD, segmentD}
 use Rattle.machine.proofs.Readings.{says-okay, says-box}
 use Rattle.demands.proofs.Upons.{Never, Anyhow, each-any}
 use Rattle.demands.proofs.SidxRun.{sidx-run}
@@ -110,14 +110,14 @@ deep-faults h e =
     at false p q = true≢false p
 
 -- no index is read on level 5
-pub too-deep : (top : Top) (slot : Slot) (f : Flow) (n : ℕ) (bs : List ℕ) (x : Index) (g : Flow) (m : ℕ) (cs : List ℕ) → innerD top slot 4 f n bs ≡ okay x g m cs → ⊥
+pub too-deep : (top : Top) (slot : Slot) (f : Flow) (n : ℕ) (bs : List ℕ) (x : IndexRead) (g : Flow) (m : ℕ) (cs : List ℕ) → innerD top slot 4 f n bs ≡ okay x g m cs → ⊥
 too-deep top slot f n bs x g m cs e =
     says-okay Never Anyhow (innerD top slot 4 f n bs) x g m cs e
     (says-box Never Anyhow (innerKind top slot 4) (λ h g' m' cs'. sidxD (under top slot 4) (spanOf h) g' m' cs') f n bs (λ m'. tt) (λ m'. tt) (λ h m' p. each-any (innerFaults 4 h))
     (λ h m' cs' p q r shown. absurd (deep-faults h shown)))
 
 -- The parts of the segment inside its machine.
-in-opening : (brand n : ℕ) (bs : List ℕ) (r : Sub OpeningBoxes Index Flow Left) →
+in-opening : (brand n : ℕ) (bs : List ℕ) (r : Sub OpeningBoxes IndexRead Flow Left) →
     S n bs (lift (stage.Opening brand) (λ x g. indexEnds x g n) bad r) ≡ after (cont left (stepOpening brand) n bs r) (λ x g m cs. S m cs (indexEnds x g m))
 unfolding stepStage
 in-opening brand n bs r = inside left (stepOpening brand) stepStage (stage.Opening brand) (λ m x g. indexEnds x g m) (λ s g m b. refl) n bs r
@@ -140,7 +140,7 @@ unfolding stepStage
 inner-steps top ls slot (inHead h) f n b = refl
 inner-steps top ls slot (inBody s) f n b = refl
 
-in-inner : (top : Top) (ls : Levels) (slot : Slot) (n : ℕ) (bs : List ℕ) (r : Sub (BoxPhase InnerBody) Index Flow Left) →
+in-inner : (top : Top) (ls : Levels) (slot : Slot) (n : ℕ) (bs : List ℕ) (r : Sub (BoxPhase InnerBody) IndexRead Flow Left) →
     S n bs (liftInner top ls slot r) ≡ after (cont left (stepBox (innerKind top slot (depth ls))) n bs r) (λ x g m cs. S m cs (follow top (push ls (innerLevel x slot)) g))
 in-inner top ls slot n bs r =
     inside left (stepBox (innerKind top slot (depth ls))) stepStage (λ s. stage.Inner top ls slot (wrapInner s)) (λ m x g. follow top (push ls (innerLevel x slot)) g) (inner-steps top ls slot) n bs r
@@ -207,7 +207,7 @@ module _ (top : Top) where
     next u g m cs = S m cs (follow top (tookEntry ls) g)
 
     -- below level 4 the index is read on; on it there is none
-    deeper : (slot : Slot) (f : Flow) (n : ℕ) (bs : List ℕ) (x : Index) (g : Flow) (m : ℕ) (cs : List ℕ) → innerD top slot (depth ls) f n bs ≡ okay x g m cs →
+    deeper : (slot : Slot) (f : Flow) (n : ℕ) (bs : List ℕ) (x : IndexRead) (g : Flow) (m : ℕ) (cs : List ℕ) → innerD top slot (depth ls) f n bs ≡ okay x g m cs →
         S m cs (follow top (push (tookEntry ls) (innerLevel x slot)) g) ≡ after (inner (suc (depth ls)) (innerLevel x slot) g m cs) next
     deeper slot f n bs x g m cs e =
         ⊎-elim (λ (h : depth ls < 4). ih h (innerLevel x slot) refl g m cs)
@@ -222,7 +222,7 @@ module _ (top : Top) where
     slot-run true slot f n b bs =
         in-inner top (tookEntry ls) slot (suc n) bs (stepBox (innerKind top slot (depth (tookEntry ls))) (inHead at.First) f n b)
         ∙ ap (λ d. after (run left (stepBox (innerKind top slot d)) (inHead at.First) f n (b ∷ bs)) (λ x g m cs. S m cs (follow top (push (tookEntry ls) (innerLevel x slot)) g))) (taking ls .deep)
-        ∙ ap (λ (r : Res Index Flow Left). after r (λ x g m cs. S m cs (follow top (push (tookEntry ls) (innerLevel x slot)) g))) (sym (inner-run top slot (depth ls) f n (b ∷ bs)))
+        ∙ ap (λ (r : Res IndexRead Flow Left). after r (λ x g m cs. S m cs (follow top (push (tookEntry ls) (innerLevel x slot)) g))) (sym (inner-run top slot (depth ls) f n (b ∷ bs)))
         ∙ after-cong (innerD top slot (depth ls) f n (b ∷ bs)) _ _ (λ x g m cs e. deeper slot f n (b ∷ bs) x g m cs e)
         ∙ sym (after-assoc (innerD top slot (depth ls) f n (b ∷ bs)) (λ x g m cs. inner (suc (depth ls)) (innerLevel x slot) g m cs) next)
     slot-run false slot f n b bs =
@@ -231,8 +231,8 @@ module _ (top : Top) where
         (sym (leaf-run (top .id) slot f n (b ∷ bs)))
         ∙ sym (after-assoc (leafD (top .id) slot f n (b ∷ bs)) (λ seen g m cs. okay tt (listed g (leafRecord slot (g .now) (seen .first)) (slot .until) (seen .last)) m cs) next)
 
-    entry-run : (f : Flow) (n : ℕ) (bs : List ℕ) → run left stepStage (stage.Entry top ls) f n bs ≡ after (entryD inner top (depth ls) (inmost ls) f n bs) next
-    unfolding run stepStage stepEntry entryD readBackD either contBy
+    entry-run : (f : Flow) (n : ℕ) (bs : List ℕ) → run left stepStage (stage.Entry top ls) f n bs ≡ after (entryPartD inner top (depth ls) (inmost ls) f n bs) next
+    unfolding run stepStage stepEntry entryPartD readBackD either contBy
     entry-run f n [] = refl
     entry-run f n (b ∷ bs) =
         let e : StoredEntry = entryAt (f .work) (entryPlace ls) in
@@ -240,17 +240,17 @@ module _ (top : Top) where
 
   entries-run : (inner : UnderD) (k : ℕ) (ls : Levels) → k + inmost ls .next ≡ inmost ls .count → ((ms : Levels) → depth ms ≡ depth ls → depth ms < 4 → Opens inner ms) →
       (f : Flow) (n : ℕ) (bs : List ℕ) →
-      S n bs (follow top ls f) ≡ after (entriesD inner top (depth ls) k (inmost ls) f n bs) (rest (outerOpen ls))
-  unfolding entriesD either onward contBy
+      S n bs (follow top ls f) ≡ after (entryPartsD inner top (depth ls) k (inmost ls) f n bs) (rest (outerOpen ls))
+  unfolding entryPartsD either onward contBy
   entries-run inner zero ls e ih f n bs = ap (λ o. S n bs (onward top o f)) (still ls ∙ pick-yes (passedAll (inmost ls)) _ _ (eq-eqb (inmost ls .next) (inmost ls .count) (omega arith)))
   entries-run inner (suc k) ls e ih f n bs =
       ap (λ o. S n bs (onward top o f)) (still ls ∙ pick-no (passedAll (inmost ls)) _ _ (ne-eqb (inmost ls .next) (inmost ls .count) (λ z. omega arith)))
       ∙ entry-run inner ls (λ h. ih ls refl h) f n bs
-      ∙ after-cong (entryD inner top (depth ls) (inmost ls) f n bs) _ _
+      ∙ after-cong (entryPartD inner top (depth ls) (inmost ls) f n bs) _ _
       (λ u g m cs q.
       entries-run inner k (tookEntry ls) (rw (taking ls .inner) (omega arith)) (λ ms d h. ih ms (d ∙ taking ls .deep) h) g m cs
-      ∙ rw (taking ls .inner, taking ls .deep) (ap (λ o. after (entriesD inner top (depth ls) k (took (inmost ls)) g m cs) (rest o)) (taking ls .outer)))
-      ∙ sym (after-assoc (entryD inner top (depth ls) (inmost ls) f n bs) (λ u g m cs. entriesD inner top (depth ls) k (took (inmost ls)) g m cs) (rest (outerOpen ls)))
+      ∙ rw (taking ls .inner, taking ls .deep) (ap (λ o. after (entryPartsD inner top (depth ls) k (took (inmost ls)) g m cs) (rest o)) (taking ls .outer)))
+      ∙ sym (after-assoc (entryPartD inner top (depth ls) (inmost ls) f n bs) (λ u g m cs. entryPartsD inner top (depth ls) k (took (inmost ls)) g m cs) (rest (outerOpen ls)))
 
   -- an index opened inside, so many levels being left
   opens : (k : ℕ) (ls : Levels) → k + depth ls ≡ 4 → depth ls < 4 → Opens (underD k top) ls
@@ -261,7 +261,7 @@ module _ (top : Top) where
       let p : Pushed (tookEntry ls) l = pushed (tookEntry ls) l (rw (taking ls .deep) h) in
       let dp : depth ps ≡ suc (depth ls) = p .deeper ∙ ap (λ (d : ℕ). suc d) (taking ls .deep) in
       entries-run (λ d l' g m cs. underD k top d l' g m cs) (l .count) ps (rw (p .inner) (omega arith)) (λ ms d h'. opens k ms (omega arith) h') f n bs
-      ∙ rw (p .inner, dp) (ap (λ o. after (entriesD (λ d l' g m cs. underD k top d l' g m cs) top (suc (depth ls)) (l .count) l f n bs) (rest o)) (p .outer))
+      ∙ rw (p .inner, dp) (ap (λ o. after (entryPartsD (λ d l' g m cs. underD k top d l' g m cs) top (suc (depth ls)) (l .count) l f n bs) (rest o)) (p .outer))
 
   -- the top index
   pub top-run : (l : Level) → l .next ≡ 0 → (f : Flow) (n : ℕ) (bs : List ℕ) → S n bs (follow top (levels.One l) f) ≡ after (underD 4 top 1 l f n bs) (λ u g m cs. okay top g m cs)
@@ -269,7 +269,7 @@ module _ (top : Top) where
   top-run l z f n bs = entries-run (λ d l' g m cs. underD 3 top d l' g m cs) (l .count) (levels.One l) (omega arith) (λ ms d h. opens 3 ms (omega arith) h) f n bs
 
 -- what follows the top index
-material-run : (x : Index) (f : Flow) (n : ℕ) (bs : List ℕ) → S n bs (indexEnds x f n) ≡ materialD x f n bs
+material-run : (x : IndexRead) (f : Flow) (n : ℕ) (bs : List ℕ) → S n bs (indexEnds x f n) ≡ materialD x f n bs
 unfolding indexEnds materialD gapD either contBy lift
 material-run x f n bs =
     let K : Unit {0} → Flow → ℕ → List ℕ → Res Top Flow Left = λ u g m cs. after (underD 4 (topOf x) 1 (topLevel x n) g m cs) (λ v h k ds. okay (topOf x) h k ds) in
@@ -284,6 +284,6 @@ material-run x f n bs =
 pub segment-run : (brand : ℕ) (f : Flow) (n : ℕ) (bs : List ℕ) → segmentD brand f n bs ≡ run left stepStage (stage0 brand) f n bs
 unfolding segmentD contBy lift
 segment-run brand f n bs =
-    ap (λ (r : Res Index Flow Left). after r (λ x g m cs. materialD x g m cs)) (opening-run brand f n bs)
+    ap (λ (r : Res IndexRead Flow Left). after r (λ x g m cs. materialD x g m cs)) (opening-run brand f n bs)
     ∙ after-cong (run left (stepOpening brand) (openings.Head false at.First) f n bs) _ _ (λ x g m cs e. sym (material-run x g m cs))
     ∙ sym (in-opening brand n bs (go (openings.Head false at.First) f))

@@ -16,7 +16,7 @@ use Rattle.machine.proofs.Fields.{field-run}
 use Rattle.state.specs.declared.Span.{Span}
 use Rattle.state.specs.declared.Draft.{Draft}
 use Rattle.state.specs.declared.Sums.{Sums}
-use Rattle.state.specs.declared.Index.{Index}
+use Rattle.state.specs.declared.IndexRead.{IndexRead}
 use Rattle.state.specs.declared.IndexPart.{IndexPart}
 use Rattle.state.specs.declared.IndexPart.the-variants as part
 use Rattle.state.specs.declared.EntryPart.{EntryPart}
@@ -30,11 +30,11 @@ use Rattle.descent.specs.Sidx.{closeD, entryD, entriesD, countedD, countD, rese
 
 module _ (p : Place) (span : Span) where
   -- what follows an answer of the index's machine
-  abbrev X : ℕ → List ℕ → Sub Sidx Index Flow Left → Res Index Flow Left
+  abbrev X : ℕ → List ℕ → Sub Sidx IndexRead Flow Left → Res IndexRead Flow Left
   X n bs r = cont left (stepSidx p span) n bs r
 
   abbrev Reads : Type 0
-  Reads = ℕ → Flow → ℕ → List ℕ → Res Index Flow Left
+  Reads = ℕ → Flow → ℕ → List ℕ → Res IndexRead Flow Left
 
   -- a number before the entries
   field : (i : IndexPart) (d : Draft) (k : Reads) → ((v : ℕ) (f : Flow) (n : ℕ) (bs : List ℕ) → k v f n bs ≡ X n bs (fieldEnds p span i d v f n)) →
@@ -48,12 +48,12 @@ module _ (p : Place) (span : Span) where
   unfolding stepSidx contBy
   word e d s k ends f n bs = field-run left (stepSidx p span) (keepByte p e s) (sidx.Entry e d s) (entryEnds p span e d s) (λ acc g n' b. refl) (λ m' acc g n' b. refl) k ends 3 0 f n bs
 
-  close : (x : Index) (f : Flow) (n : ℕ) (bs : List ℕ) → closeD p span x f n bs ≡ X n bs (closeSidx p span x f n)
+  close : (x : IndexRead) (f : Flow) (n : ℕ) (bs : List ℕ) → closeD p span x f n bs ≡ X n bs (closeSidx p span x f n)
   unfolding closeD closeSidx contBy
   close x f n bs = unless-both (λ r. r) (X n bs) _ _ _ _ (sumFaults p span x (f .now) n) (λ y. refl) refl
 
   -- an entry, and what follows it
-  one-entry : (d : Draft) (s : Sums) (more : Sums → Flow → ℕ → List ℕ → Res Index Flow Left) →
+  one-entry : (d : Draft) (s : Sums) (more : Sums → Flow → ℕ → List ℕ → Res IndexRead Flow Left) →
       ((t : Sums) (f : Flow) (n : ℕ) (bs : List ℕ) → t .next ≡ s .next → t .count ≡ s .count → (v : ℕ) → more t f n bs ≡ X n bs (entryEnds p span entry.Sap d t v f n)) →
       (f : Flow) (n : ℕ) (bs : List ℕ) → entryD p span more s f n bs ≡ X n bs (go (sidx.Entry entry.Size d s 3 0) f)
   unfolding entryD entryEnds contBy

@@ -31,7 +31,7 @@ use Rattle.state.specs.declared.Top.{Top}
 use Rattle.state.specs.declared.Slot.{Slot}
 use Rattle.state.specs.declared.Draft.{Draft}
 use Rattle.state.specs.declared.Sums.{Sums}
-use Rattle.state.specs.declared.Index.{Index}
+use Rattle.state.specs.declared.IndexRead.{IndexRead}
 use Rattle.state.specs.declared.EntryPart.{EntryPart}
 use Rattle.state.specs.declared.EntryPart.the-variants as entry
 use Rattle.state.specs.Flow.{Flow, Left, left, withWork}
@@ -390,9 +390,9 @@ version-right span n xs i e found =
     let f = sidx-inv xs i found in
     rw (le-ltb 1 (versionHere xs) (version-small (versionHere xs) _ (f .version-known)), version-long span n (wideHere xs) xs e (f .rooms-there))
 
-module _ {X : Type 0} (p : Place) (span : Span) (h : Index → Flow → ℕ → List ℕ → Option X) where
+module _ {X : Type 0} (p : Place) (span : Span) (h : IndexRead → Flow → ℕ → List ℕ → Option X) where
   -- a number of an entry whose bytes are there
-  word-upon : (e : EntryPart) (s : Sums) (k : ℕ → Flow → ℕ → List ℕ → Res Index Flow Left) (f : Flow) (n : ℕ) (zs ys : List ℕ) → 4 ≤ length zs →
+  word-upon : (e : EntryPart) (s : Sums) (k : ℕ → Flow → ℕ → List ℕ → Res IndexRead Flow Left) (f : Flow) (n : ℕ) (zs ys : List ℕ) → 4 ≤ length zs →
       upon (fieldD left (keepByte p e s) k 4 0 f n (zs ++ ys)) h ≡ upon (k (number (take 4 zs)) (putInto f (numberPlace p e s) (take 4 zs)) (n + 4) (drop 4 zs ++ ys)) h
   word-upon e s k f n zs ys l =
       let q : numberPlace p e s + 0 ≡ numberPlace p e s = omega arith in
@@ -401,7 +401,7 @@ module _ {X : Type 0} (p : Place) (span : Span) (h : Index → Flow → ℕ → 
       ap (λ r. upon r h) (kept p e s k 4 0 f n (zs ++ ys) (omega arith) (omega (arith, length-append zs ys)) ∙ rw (t, d, q))
 
   -- an entry whose bytes are there
-  entry-tree : (more : Sums → Flow → ℕ → List ℕ → Res Index Flow Left) (s : Sums) (f : Flow) (n : ℕ) (zs ys : List ℕ) → entryBytes ≤ length zs →
+  entry-tree : (more : Sums → Flow → ℕ → List ℕ → Res IndexRead Flow Left) (s : Sums) (f : Flow) (n : ℕ) (zs ys : List ℕ) → entryBytes ≤ length zs →
       upon (entryD p span more s f n (zs ++ ys)) h
       ≡ andThen (entryOf zs) (λ e. upon (more (plusEntry s e) (putInto f (partOf p + entryBytes * s .next) (take entryBytes zs)) (n + entryBytes) (drop entryBytes zs ++ ys)) h)
   unfolding entryD wordPlace andThen
@@ -428,7 +428,7 @@ module _ {X : Type 0} (p : Place) (span : Span) (h : Index → Flow → ℕ → 
       ∙ sym (ap (λ o. andThen o told) (entry-here zs l) ∙ pick-then (eqb (entrySize word) 0) (some (entryHere zs)) told)
 
   -- the index that entries end
-  abbrev indexWith : Draft → Sums → List Entry → Index
+  abbrev indexWith : Draft → Sums → List Entry → IndexRead
   indexWith d s es =
       record { id = d .id; scale = d .scale; time = d .time; offset = d .offset; count = s .count; sizes = s .sizes + sizes es; durations = s .durations + durations es }
 
@@ -612,12 +612,12 @@ module _ {X : Type 0} (p : Place) (span : Span) (h : Index → Flow → ℕ → 
       at false q = sym (then-cong (sidxIndex xs) _ (λ i. none) (λ i found. absurd (true≢false (sym (version-right span n xs i e found) ∙ sym q))) ∙ then-none (sidxIndex xs))
 
 -- An index box by structure is accepted exactly where the tree has an index that suits its place, and then its entries are stored.
-pub sidx-tree : {X : Type 0} (p : Place) (span : Span) (f : Flow) (n : ℕ) (xs ys : List ℕ) (k : Index → Flow → ℕ → List ℕ → Option X) → n + length xs ≡ span .end → 24 ≤ length xs →
+pub sidx-tree : {X : Type 0} (p : Place) (span : Span) (f : Flow) (n : ℕ) (xs ys : List ℕ) (k : IndexRead → Flow → ℕ → List ℕ → Option X) → n + length xs ≡ span .end → 24 ≤ length xs →
     upon (sidxD p span f n (xs ++ ys)) k ≡ andThen (sidxIndex xs) (λ i. pick (suits p span i (f .now)) (k (indexFrom i) (withEntries f p i xs) (span .end) ys) none)
 sidx-tree p span f n xs ys k e l = body-tree p span k f n xs ys e l
 
 -- an index in its place, its body all there
-pub sidx-fitting : {X : Type 0} (p : Place) (span : Span) (f : Flow) (n : ℕ) (xs ys : List ℕ) (k : Index → Flow → ℕ → List ℕ → Option X) → n + length xs ≡ span .end →
+pub sidx-fitting : {X : Type 0} (p : Place) (span : Span) (f : Flow) (n : ℕ) (xs ys : List ℕ) (k : IndexRead → Flow → ℕ → List ℕ → Option X) → n + length xs ≡ span .end →
     pick (not (ltb (length xs) 24)) (upon (sidxD p span f n (xs ++ ys)) k) none
     ≡ andThen (sidxIndex xs) (λ i. pick (suits p span i (f .now)) (k (indexFrom i) (withEntries f p i xs) (span .end) ys) none)
 unfolding pick andThen
@@ -640,34 +640,34 @@ count-left span v n e =
 
 -- An accepted index ends where its box does, of `all` bytes.
 module _ (p : Place) (span : Span) (all : ℕ) where
-  abbrev Ends : Index → Flow → ℕ → List ℕ → Type 0
+  abbrev Ends : IndexRead → Flow → ℕ → List ℕ → Type 0
   Ends x g m cs = (m ≡ span .end) × (m + length cs ≡ all)
 
-  abbrev Told : Res Index Flow Left → Type 0
+  abbrev Told : Res IndexRead Flow Left → Type 0
   Told r = Says Ends (λ x l m. Unit {0}) r
 
-  abbrev Reads : (ℕ → Flow → ℕ → List ℕ → Res Index Flow Left) → Type 0
+  abbrev Reads : (ℕ → Flow → ℕ → List ℕ → Res IndexRead Flow Left) → Type 0
   Reads k = (v : ℕ) (f : Flow) (n : ℕ) (bs : List ℕ) → n + length bs ≡ all → Told (k v f n bs)
 
   -- a number before the entries
-  number-told : (k : ℕ → Flow → ℕ → List ℕ → Res Index Flow Left) → Reads k → (m acc : ℕ) (f : Flow) (n : ℕ) (bs : List ℕ) → n + length bs ≡ all → Told (fieldD left plain k m acc f n bs)
+  number-told : (k : ℕ → Flow → ℕ → List ℕ → Res IndexRead Flow Left) → Reads k → (m acc : ℕ) (f : Flow) (n : ℕ) (bs : List ℕ) → n + length bs ≡ all → Told (fieldD left plain k m acc f n bs)
   number-told k s m acc f n bs e = says-field Ends _ left k m acc f n bs (λ v cs q. s v f (n + m) cs (omega arith))
 
   -- faults that a byte shows
-  faults-told : (xs : List Refusal) (l : Left) (n : ℕ) (r : Res Index Flow Left) → (xs ≡ [] → Told r) → Told (faults.unless xs (λ x. fail x l n) r)
+  faults-told : (xs : List Refusal) (l : Left) (n : ℕ) (r : Res IndexRead Flow Left) → (xs ≡ [] → Told r) → Told (faults.unless xs (λ x. fail x l n) r)
   faults-told xs l n r s = says-unless Ends (λ x l m. Unit {0}) xs l n r (each-any xs) s
 
   -- a number of an entry
-  word-told : (e : EntryPart) (s : Sums) (k : ℕ → Flow → ℕ → List ℕ → Res Index Flow Left) (f : Flow) (n : ℕ) (bs : List ℕ) → n + length bs ≡ all →
+  word-told : (e : EntryPart) (s : Sums) (k : ℕ → Flow → ℕ → List ℕ → Res IndexRead Flow Left) (f : Flow) (n : ℕ) (bs : List ℕ) → n + length bs ≡ all →
       ((v : ℕ) (g : Flow) (m : ℕ) (cs : List ℕ) → m ≡ n + 4 → m + length cs ≡ all → Told (k v g m cs)) → Told (fieldD left (keepByte p e s) k 4 0 f n bs)
   word-told e s k f n bs q h =
       says-kept Ends _ left (keepByte p e s) k (λ m g i cs. (i + m ≡ n + 4) × (i + length cs ≡ all)) (λ m g i b cs z. omega arith) (λ v g i cs z. h v g i cs (omega arith) (z .1)) 4 0 f n bs (refl, q)
 
-  close-told : (x : Index) (f : Flow) (n : ℕ) (bs : List ℕ) → n ≡ span .end → n + length bs ≡ all → Told (closeD p span x f n bs)
+  close-told : (x : IndexRead) (f : Flow) (n : ℕ) (bs : List ℕ) → n ≡ span .end → n + length bs ≡ all → Told (closeD p span x f n bs)
   unfolding closeD
   close-told x f n bs e q = faults-told (sumFaults p span x (f .now) n) _ n _ (λ z. (e, q))
 
-  entry-told : (more : Sums → Flow → ℕ → List ℕ → Res Index Flow Left) (s : Sums) (f : Flow) (n : ℕ) (bs : List ℕ) → n + length bs ≡ all →
+  entry-told : (more : Sums → Flow → ℕ → List ℕ → Res IndexRead Flow Left) (s : Sums) (f : Flow) (n : ℕ) (bs : List ℕ) → n + length bs ≡ all →
       ((t : Sums) (g : Flow) (m : ℕ) (cs : List ℕ) → m ≡ n + entryBytes → m + length cs ≡ all → Told (more t g m cs)) → Told (entryD p span more s f n bs)
   unfolding entryD
   entry-told more s f n bs q h =
@@ -704,12 +704,12 @@ module _ (p : Place) (span : Span) (all : ℕ) where
       number-told _ (count-told _) 2 0 f n bs q) 2 0 f n bs q)) _ 0 f n bs q)) _ 0 f n bs q)) 4 0 f n bs q)) 4 0 f n bs q) 3 0 f n bs q)) 1 0 f n bs q
 
 -- an accepted index ends where its box does, and what was read and what is left are all
-pub sidx-ends : (p : Place) (span : Span) (f : Flow) (n : ℕ) (bs : List ℕ) (x : Index) (g : Flow) (m : ℕ) (cs : List ℕ) → sidxD p span f n bs ≡ okay x g m cs →
+pub sidx-ends : (p : Place) (span : Span) (f : Flow) (n : ℕ) (bs : List ℕ) (x : IndexRead) (g : Flow) (m : ℕ) (cs : List ℕ) → sidxD p span f n bs ≡ okay x g m cs →
     (m ≡ span .end) × (m + length cs ≡ n + length bs)
 sidx-ends p span f n bs x g m cs e = says-okay (Ends p span (n + length bs)) (λ y l i. Unit {0}) (sidxD p span f n bs) x g m cs e (sidx-told p span (n + length bs) f n bs refl)
 
 -- a body that is cut off is not accepted
-pub sidx-cut : {X : Type 0} (p : Place) (span : Span) (f : Flow) (n : ℕ) (bs : List ℕ) (k : Index → Flow → ℕ → List ℕ → Option X) → n + length bs < span .end → upon (sidxD p span f n bs) k ≡ none
+pub sidx-cut : {X : Type 0} (p : Place) (span : Span) (f : Flow) (n : ℕ) (bs : List ℕ) (k : IndexRead → Flow → ℕ → List ℕ → Option X) → n + length bs < span .end → upon (sidxD p span f n bs) k ≡ none
 sidx-cut p span f n bs k l = upon-okay (sidxD p span f n bs) k (λ x g m cs e. let (q, r) = sidx-ends p span f n bs x g m cs e in absurd (omega arith))
 
 -- The top index suits its place where its sums do.

@@ -15,7 +15,7 @@ use Rattle.machine.specs.Run.{Res, okay, after}
 use Rattle.machine.proofs.Limits.{beyond-none}
 use Rattle.machine.proofs.Runs.{consumed-run}
 use Rattle.state.specs.declared.Top.{Top}
-use Rattle.state.specs.declared.Index.{Index}
+use Rattle.state.specs.declared.IndexRead.{IndexRead}
 use Rattle.state.specs.Flow.{Flow, Left, left, withNow}
 use Rattle.state.specs.Stages.{topOf, topLevel, stepStage}
 use Rattle.state.specs.Step.{stage0, flow0}
@@ -32,7 +32,7 @@ abbrev given : Top → Flow → ℕ → List ℕ → Option Top
 given top f n bs = some top
 
 -- what follows the top index gives what that index states
-material-top : (x : Index) (f : Flow) (n : ℕ) (bs : List ℕ) (top : Top) → upon (materialD x f n bs) given ≡ some top → top ≡ topOf x
+material-top : (x : IndexRead) (f : Flow) (n : ℕ) (bs : List ℕ) (top : Top) → upon (materialD x f n bs) given ≡ some top → top ≡ topOf x
 unfolding materialD upon
 material-top x f n bs top e =
     let gap : Res (Unit {0}) Flow Left = gapD (x .offset) (withNow f (x .time)) n bs in
@@ -47,7 +47,7 @@ segment-top : (brand : ℕ) (f : Flow) (bs : List ℕ) (top : Top) → length bs
     (o : Opened) × (topIndex brand bs ≡ some o) × (top ≡ stated (o .index))
 unfolding segmentD
 segment-top brand f bs top small e =
-    let k : Index → Flow → ℕ → List ℕ → Option Top = λ x g m cs. upon (materialD x g m cs) given in
+    let k : IndexRead → Flow → ℕ → List ℕ → Option Top = λ x g m cs. upon (materialD x g m cs) given in
     let found : upon (openingD brand f 0 bs) k ≡ some top = sym (upon-after (openingD brand f 0 bs) materialD given) ∙ e in
     let (o, opened, e1) = then-inv (topIndex brand bs) (atTop f k (length bs)) top (sym (opening-tree brand f k bs small) ∙ found) in
     let (fine, e2) = pick-some _ _ top e1 in

@@ -28,7 +28,7 @@ use Rattle.state.specs.Rows.{noRoom}
 use Rattle.state.specs.Levels.{entryAt, altered, slotOf, took}
 use Rattle.state.specs.Stages.{innerLevel, leafRecord}
 use Rattle.descent.specs.Leaf.{leafD}
-use Rattle.descent.specs.Whole.{UnderD, innerD, slotD, readBackD, entryD, entriesD}
+use Rattle.descent.specs.Whole.{UnderD, innerD, slotD, readBackD, entryPartD, entryPartsD}
 use Rattle.demands.specs.Told.{climb}
 use Rattle.covering.specs.Records.{recordOf}
 use Rattle.demands.specs.Verdict.{Verdict, judge, told, seen0, enlist, Meets}
@@ -151,7 +151,7 @@ module _ (X : Type 0) (top : Top) (depth : ℕ) where
   Entered read parts = (e : tree.Entry) (f g : Flow) (n : ℕ) (xs ys : List ℕ) (h : Goes X) (K : Flow → Verdict X) → e .size ≡ length xs → 0 < length xs → workBytes ≤ length (f .work) →
       Like f g → Follows (levelBytes * depth) (f .work) (f .now + e .duration) h (n + e .size) ys K → Meets (judge (read e f n (xs ++ ys)) h) (tells (parts e n (f .now) xs) g K)
 
-  module _ (inner : UnderD) (underT : tree'.Under) where
+  module _ (inner : UnderD) (underT : tree'.PartsUnder) where
     -- an inner index and all that it indexes
     abbrev pub Deeper : Type 0
     Deeper = Entered
@@ -180,8 +180,8 @@ module _ (X : Type 0) (top : Top) (depth : ℕ) where
       entry-meets : (l : Level) (e : tree.Entry) (es : List tree.Entry) (f g : Flow) (n : ℕ) (xs ys : List ℕ) (h : Goes X) (K : Flow → Verdict X) →
           Stands l (e ∷ es) n (f .now) → entryAt (f .work) (place l) ≡ entryFrom e → e .size ≡ length xs → workBytes ≤ length (f .work) → Like f g →
           Follows (levelBytes * depth) (f .work) (f .now + e .duration) h (n + e .size) ys K →
-          Meets (judge (entryD inner top depth l f n (xs ++ ys)) h) (tells (entryParts (top .id) underT n (f .now) e xs) g K)
-      unfolding entryD readBackD unless shows
+          Meets (judge (entryPartD inner top depth l f n (xs ++ ys)) h) (tells (entryParts (top .id) underT n (f .now) e xs) g K)
+      unfolding entryPartD readBackD unless shows
       entry-meets l e es f g n [] ys h K st he sz long lk fo = absurd (omega (arith, st .sized .0))
       entry-meets l e es f g n (x ∷ xs) ys h K st he sz long lk fo =
           rw (he, not-altered l e es n (f .now) st) (slot-meets e f g n (x ∷ xs) ys h K sz (omega arith) long lk fo)
@@ -189,8 +189,8 @@ module _ (X : Type 0) (top : Top) (depth : ℕ) where
       pub tile-meets : (es : List tree.Entry) (l : Level) (f g : Flow) (n : ℕ) (xs ys : List ℕ) (h : Goes X) (K : Flow → Verdict X) →
           1 ≤ depth → Stands l es n (f .now) → Holds (f .work) (place l) es → sizes es ≡ length xs → workBytes ≤ length (f .work) → Like f g →
           Follows (levelBytes * depth) (f .work) (f .now + durations es) h (n + length xs) ys K →
-          Meets (judge (entriesD inner top depth (length es) l f n (xs ++ ys)) h) (tells (tile (top .id) underT n (f .now) es xs) g K)
-      unfolding entriesD tile sizes durations told enlist judge
+          Meets (judge (entryPartsD inner top depth (length es) l f n (xs ++ ys)) h) (tells (tile (top .id) underT n (f .now) es xs) g K)
+      unfolding entryPartsD tile sizes durations told enlist judge
       tile-meets [] l f g n [] ys h K one st ho sz long lk fo =
           let q : n + 0 ≡ n = omega arith in
           rw q at (fo f g (omega arith) (alike-refl _ _) lk)
@@ -202,7 +202,7 @@ module _ (X : Type 0) (top : Top) (depth : ℕ) where
           let lr : length R ≡ length xs - e .size = length-drop (e .size) xs in
           let tiled : ℕ → Option (List Part) = λ t. tile (top .id) underT (n + e .size) t es R in
           let rest : Option (List Part) = tiled (f .now + e .duration) in
-          let h' : Goes X = λ u f' m cs. judge (entriesD inner top depth (length es) (took l) f' m cs) h in
+          let h' : Goes X = λ u f' m cs. judge (entryPartsD inner top depth (length es) (took l) f' m cs) h in
           let K' : Flow → Verdict X = λ g'. tells rest g' K in
           let cutAt : xs ++ ys ≡ B ++ (R ++ ys) = ap (λ (z : List ℕ). z ++ ys) (sym (take-append-drop (e .size) xs)) ∙ append-assoc B R ys in
           let next : place l + entryBytes ≡ place (took l) = omega arith in
@@ -215,8 +215,8 @@ module _ (X : Type 0) (top : Top) (depth : ℕ) where
           (omega arith) (omega (arith, al .long)) lk1 (λ f2 g2 t2 al2 lk2. rw m (fo f2 g2 (omega arith) (alike-trans al al2) lk2)) in
           subst (λ (t : ℕ). Meets (h' tt f1 (n + e .size) (R ++ ys)) (tells (tiled t) g1 K)) t1 go-on in
           let parts : Option (List Part) = entryParts (top .id) underT n (f .now) e B in
-          let read : Verdict X = judge (entryD inner top depth l f n (B ++ (R ++ ys))) h' in
+          let read : Verdict X = judge (entryPartD inner top depth l f n (B ++ (R ++ ys))) h' in
           let one-entry : Meets read (tells parts g K') = entry-meets l e es f g n B (R ++ ys) h' K' st (ho .0) (sym lb) long lk follows in
-          rw (ap (λ (z : List ℕ). judge (after (entryD inner top depth l f n z) (λ u g' m cs. entriesD inner top depth (length es) (took l) g' m cs)) h) cutAt
-          ∙ judge-after (entryD inner top depth l f n (B ++ (R ++ ys))) _ h)
+          rw (ap (λ (z : List ℕ). judge (after (entryPartD inner top depth l f n z) (λ u g' m cs. entryPartsD inner top depth (length es) (took l) g' m cs)) h) cutAt
+          ∙ judge-after (entryPartD inner top depth l f n (B ++ (R ++ ys))) _ h)
           (meets-trans read (tells parts g K') (tells (andThen parts (λ ps. andThen rest (λ qs. some (ps ++ qs)))) g K) one-entry (enlist-both parts rest g K))

@@ -20,8 +20,8 @@ use Rattle.machine.specs.Faults.{shows}
 use Rattle.machine.specs.declared.Header.{Header}
 use Rattle.state.specs.declared.Seen.{Seen}
 use Rattle.state.specs.declared.Slot.{Slot}
-use Rattle.state.specs.declared.Track.{Track}
-use Rattle.state.specs.declared.Track.the-variants as track
+use Rattle.state.specs.declared.TrafPhase.{TrafPhase}
+use Rattle.state.specs.declared.TrafPhase.the-variants as track
 use Rattle.state.specs.declared.TrafSo.{TrafSo}
 use Rattle.state.specs.declared.LeafSo.{LeafSo}
 use Rattle.state.specs.Flow.{Flow, left}
@@ -221,7 +221,7 @@ which k = at (eqb k tfhd) (eqb k tfdt) (eqb k tfad) refl refl refl
     at false false true e f g = at-tfad (eqb-true k tfad g)
     at false false false e f g = unknown e f g
 
-pub traf-faults : (t : Track) (h : Header) →
+pub traf-faults : (t : TrafPhase) (h : Header) →
     clean (trafFaults t h)
     ≡ not ((is h tfhd || is h tfdt) && ltb (bodyLength h) 8) && (not (is h tfhd && not (fresh t) || is h tfdt && not (headedTrack t)) && not (is h tfad))
 unfolding trafFaults
@@ -287,7 +287,7 @@ fromFirst : {X : Type 0} → ℕ → Seen → List Box → (Seen → Option X) �
 fromFirst id seen [] h = none
 fromFirst id seen (b ∷ bs) h = pick (eqb (b .kind) tfhd) (andThen (tfhdTrack (b .body)) (λ v. afterHead (eqb v id) seen bs h)) none
 
-fromKnown : {X : Type 0} → ℕ → Track → Seen → List Box → (Seen → Option X) → Option X
+fromKnown : {X : Type 0} → ℕ → TrafPhase → Seen → List Box → (Seen → Option X) → Option X
 fromKnown id track.Fresh seen bs h = fromFirst id seen bs h
 fromKnown id (track.Headed r) seen bs h = afterHead r seen bs h
 fromKnown id track.Timed seen bs h = afterTime bs (h seen)
@@ -381,15 +381,15 @@ module _ (id : ℕ) where
     unfolding only pick among
     known-no b bs e f g = rw (e, f, g)
 
-    traf-from : (t : Track) (seen : Seen) (pos : ℕ) (bs : List Box) → Fits bs → andThen (walk (trafWalk id) (record { track = t; seen = seen }) pos bs) ended ≡ fromKnown id t seen (known bs) h
+    traf-from : (t : TrafPhase) (seen : Seen) (pos : ℕ) (bs : List Box) → Fits bs → andThen (walk (trafWalk id) (record { track = t; seen = seen }) pos bs) ended ≡ fromKnown id t seen (known bs) h
     unfolding walk andThen only among pick fromKnown fromFirst afterHead afterTime lacking clean shows fresh headedTrack reference
     traf-from track.Fresh seen pos [] l = refl
     traf-from (track.Headed r) seen pos [] l = refl
     traf-from track.Timed seen pos [] l = refl
     traf-from t seen pos (b ∷ bs) l = at t (which (b .kind)) (λ t' s. traf-from t' s (pos + b .size) bs (l .1))
       where
-        at : (t : Track) → Of (b .kind) →
-            ((t' : Track) (s : Seen) → andThen (walk (trafWalk id) (record { track = t'; seen = s }) (pos + b .size) bs) ended ≡ fromKnown id t' s (known bs) h) →
+        at : (t : TrafPhase) → Of (b .kind) →
+            ((t' : TrafPhase) (s : Seen) → andThen (walk (trafWalk id) (record { track = t'; seen = s }) (pos + b .size) bs) ended ≡ fromKnown id t' s (known bs) h) →
             andThen (walk (trafWalk id) (record { track = t; seen = seen }) pos (b ∷ bs)) ended ≡ fromKnown id t seen (known (b ∷ bs)) h
         at t (unknown e f g) more = rw (box-unknown (record { track = t; seen = seen }) pos b bs e f g, known-no b bs e f g) (more t seen)
         at track.Fresh (at-tfhd e) more =

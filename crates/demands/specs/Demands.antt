@@ -12,7 +12,7 @@ use Rattle.state.specs.declared.State.the-variants as state
 use Rattle.state.specs.declared.FinishAnswer.{FinishAnswer}
 use Rattle.state.specs.declared.FinishAnswer.the-variants as finishes
 use Rattle.state.specs.Calls.{Out, startOf}
-use Rattle.state.specs.Parts.{held, feedAll, finishHeld}
+use Rattle.state.specs.Cutting.{held, feedAll, finishHeld}
 use Rattle.covering.specs.Records.{recordsOf}
 
 -- what an index states of the segment: reference ID, timescale, start and sum of durations

@@ -15,7 +15,7 @@ use Rattle.machine.specs.declared.Refusal.{Refusal}
 use Rattle.machine.specs.declared.Header.{Header}
 use Rattle.state.specs.declared.Seen.{Seen}
 use Rattle.state.specs.declared.Span.{Span}
-use Rattle.state.specs.declared.Index.{Index}
+use Rattle.state.specs.declared.IndexRead.{IndexRead}
 use Rattle.state.specs.Flow.{Flow, Left, withWork}
 use Rattle.basics.specs.Put.{putAll}
 use Rattle.state.specs.Traf.{saw}
@@ -45,7 +45,7 @@ abbrev pub headerOf : ℕ → Box → Header
 headerOf pos b = header pos (b .kind) (b .size) (headLength b)
 
 -- an index of the tree, as the reader gives it
-abbrev pub indexFrom : tree.Index → Index
+abbrev pub indexFrom : tree.Index → IndexRead
 indexFrom i =
     record { id = i .id; scale = i .scale; time = i .time; offset = i .offset; count = length (i .entries); sizes = sizes (i .entries); durations = durations (i .entries) }
 

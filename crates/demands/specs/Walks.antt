@@ -11,7 +11,7 @@ use Rattle.machine.specs.declared.Refusal.{Refusal}
 use Rattle.machine.specs.declared.Header.{Header}
 use Rattle.state.specs.declared.Seen.{Seen}
 use Rattle.state.specs.declared.Slot.{Slot}
-use Rattle.state.specs.declared.Track.{Track}
+use Rattle.state.specs.declared.TrafPhase.{TrafPhase}
 use Rattle.state.specs.declared.TrafSo.{TrafSo}
 use Rattle.state.specs.declared.LeafSo.{LeafSo}
 use Rattle.state.specs.Flow.{Flow}
@@ -36,7 +36,7 @@ walk w a n (b ∷ bs) =
     none
 
 -- in a `traf`
-unfoldable pub trafItem : ℕ → Track → ℕ → Box → Option Gave
+unfoldable pub trafItem : ℕ → TrafPhase → ℕ → Box → Option Gave
 trafItem id t pos b =
     pick (eqb (b .kind) tfhd) (andThen (tfhdTrack (b .body)) (λ v. some (headed (eqb v id))))
     (pick (eqb (b .kind) tfdt) (andThen (tfdtTime (b .body)) (λ v. some (timed (reference t) pos v))) (some nothing))

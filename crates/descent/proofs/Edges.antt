@@ -8,15 +8,15 @@ use Rattle.machine.specs.Faults.{shows, unless}
 use Rattle.machine.specs.Run.{okay, either, fieldD, skipD}
 use Rattle.machine.specs.Heads.{headD, sizedD}
 use Rattle.machine.specs.Lists.{boxD, goOnD, boxesD}
-use Rattle.state.specs.declared.Index.{Index}
+use Rattle.state.specs.declared.IndexRead.{IndexRead}
 use Rattle.state.specs.Flow.{Flow, withNow}
 use Rattle.state.specs.Rows.{topLengths, gapFaults}
 use Rattle.state.specs.Stages.{gapNext, topOf}
-use Rattle.descent.specs.Whole.{gapD, entriesD, underD, materialD}
+use Rattle.descent.specs.Whole.{gapD, entryPartsD, underD, materialD}
 
 -- Rule 7: the time line starts at the top index's earliest presentation time. With no entry to pass it still stands there.
-pub time-line-starts : (x : Index) (f : Flow) (n : ℕ) (bs : List ℕ) → x .offset ≡ 0 → x .count ≡ 0 → materialD x f n bs ≡ okay (topOf x) (withNow f (x .time)) n bs
-unfolding materialD gapD underD entriesD either pick
+pub time-line-starts : (x : IndexRead) (f : Flow) (n : ℕ) (bs : List ℕ) → x .offset ≡ 0 → x .count ≡ 0 → materialD x f n bs ≡ okay (topOf x) (withNow f (x .time)) n bs
+unfolding materialD gapD underD entryPartsD either pick
 time-line-starts x f n bs none empty = rw (none, empty)
 
 -- Rule 2: a gap of first-offset bytes is counted from the end of the top index. Here an index that ends at byte 64, a first offset of 8,

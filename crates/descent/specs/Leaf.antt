@@ -14,7 +14,7 @@ use Rattle.machine.specs.declared.Header.{Header}
 use Rattle.state.specs.declared.Span.{Span}
 use Rattle.state.specs.declared.Seen.{Seen}
 use Rattle.state.specs.declared.Slot.{Slot}
-use Rattle.state.specs.declared.Track.{Track}
+use Rattle.state.specs.declared.TrafPhase.{TrafPhase}
 use Rattle.state.specs.Flow.{Flow, Left, left}
 use Rattle.state.specs.Rows.{is}
 use Rattle.state.specs.Opening.{spanOf}
@@ -43,7 +43,7 @@ tfdtD r pos end f n bs =
     unless (tfdtVersionFaults pos end v m) (λ x. fail x (left g) m) (fieldD left plain (λ flags h k ds. widthD (eqb v 1) r pos h k ds) 3 0 g m cs))
     1 0 f n bs
 
-unfoldable pub trafBodyD : ℕ → Track → Header → Flow → ℕ → List ℕ → Gave'
+unfoldable pub trafBodyD : ℕ → TrafPhase → Header → Flow → ℕ → List ℕ → Gave'
 trafBodyD id t h f n bs =
     pick (is h tfhd) (tfhdD id (boxEnd h) f n bs)
     (pick (is h tfdt) (tfdtD (reference t) (h .pos) (boxEnd h) f n bs) (skipTo nothing (boxEnd h) f n bs))

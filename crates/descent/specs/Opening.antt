@@ -12,7 +12,7 @@ use Rattle.machine.specs.Heads.{boxEnd}
 use Rattle.machine.specs.Lists.{boxesD}
 use Rattle.machine.specs.declared.Header.{Header}
 use Rattle.state.specs.declared.Span.{Span}
-use Rattle.state.specs.declared.Index.{Index}
+use Rattle.state.specs.declared.IndexRead.{IndexRead}
 use Rattle.state.specs.Flow.{Flow, Left, left}
 use Rattle.state.specs.Rows.{is}
 use Rattle.state.specs.Sidx.{topmost}
@@ -40,5 +40,5 @@ openingBodyD brand h f n bs =
     pick (is h styp) (stypD brand (spanOf h) f n bs)
     (pick (is h sidx) (after (sidxD topmost (spanOf h) f n bs) (λ x g m cs. okay (indexed x) g m cs)) (skipTo passed (boxEnd h) f n bs))
 
-abbrev pub openingD : ℕ → Flow → ℕ → List ℕ → Res Index Flow Left
+abbrev pub openingD : ℕ → Flow → ℕ → List ℕ → Res IndexRead Flow Left
 openingD brand f n bs = boxesD (opening brand) (λ branded. openingBodyD brand) (suc (length bs)) false f n bs

@@ -7,17 +7,17 @@ use Rattle.machine.specs.Run.{Res, okay, fail, fieldD, plain}
 use Rattle.state.specs.declared.Span.{Span}
 use Rattle.state.specs.declared.Draft.{Draft}
 use Rattle.state.specs.declared.Sums.{Sums}
-use Rattle.state.specs.declared.Index.{Index}
+use Rattle.state.specs.declared.IndexRead.{IndexRead}
 use Rattle.state.specs.declared.EntryPart.the-variants as entry
 use Rattle.state.specs.Flow.{Flow, Left, left}
 use Rattle.state.specs.Sidx.{Place, wideMore, indexOf, plusSize, plusDuration, nextEntry, keepByte}
 use Rattle.state.specs.Sidx.{sidxVersionFaults, idFaults, scaleFaults, timeFaults, offsetFaults, countFaults, sumFaults, entrySizeFaults}
 
 abbrev Res' : Type 0
-Res' = Res Index Flow Left
+Res' = Res IndexRead Flow Left
 
 module _ (p : Place) (span : Span) where
-  unfoldable pub closeD : Index → Flow → ℕ → List ℕ → Res'
+  unfoldable pub closeD : IndexRead → Flow → ℕ → List ℕ → Res'
   closeD x f n bs = unless (sumFaults p span x (f .now) n) (λ y. fail y (left f) n) (okay x f n bs)
 
   -- one entry: its size, its duration, its SAP word

@@ -14,7 +14,7 @@ use Rattle.machine.specs.Limit.{beyond}
 use Rattle.state.specs.declared.Top.{Top}
 use Rattle.state.specs.declared.Level.{Level}
 use Rattle.state.specs.declared.Slot.{Slot}
-use Rattle.state.specs.declared.Index.{Index}
+use Rattle.state.specs.declared.IndexRead.{IndexRead}
 use Rattle.state.specs.declared.State.the-variants as state
 use Rattle.state.specs.declared.FinishAnswer.{FinishAnswer}
 use Rattle.state.specs.declared.FinishAnswer.the-variants as finishes
@@ -44,7 +44,7 @@ abbrev pub UnderD : Type 0
 UnderD = ℕ → Level → Flow → ℕ → List ℕ → Went
 
 -- the first box of an index entry
-abbrev pub innerD : Top → Slot → ℕ → Flow → ℕ → List ℕ → Res Index Flow Left
+abbrev pub innerD : Top → Slot → ℕ → Flow → ℕ → List ℕ → Res IndexRead Flow Left
 innerD top slot depth f n bs = boxD (innerKind top slot depth) (λ h g m cs. sidxD (under top slot depth) (spanOf h) g m cs) f n bs
 
 -- type 0 is a leaf; type 1 covers an inner index followed by all that it indexes
@@ -58,23 +58,23 @@ readBackD inner top depth l e f n bs =
     unless (entryFaults l e (f .now) n) (λ x. fail x (left f) (suc n)) (slotD inner top depth (e .inner) (slotOf e (f .now) n) f n bs)
 
 -- an entry is read back when its first byte comes
-unfoldable pub entryD : UnderD → Top → ℕ → Level → Flow → ℕ → List ℕ → Went
-entryD inner top depth l f n [] = cut (left f) n
-entryD inner top depth l f n (b ∷ bs) =
+unfoldable pub entryPartD : UnderD → Top → ℕ → Level → Flow → ℕ → List ℕ → Went
+entryPartD inner top depth l f n [] = cut (left f) n
+entryPartD inner top depth l f n (b ∷ bs) =
     readBackD inner top depth l (entryAt (f .work) (levelBytes * (depth - 1) + entryBytes * l .next)) f n (b ∷ bs)
 
 -- so many entries, end to end, in order
-unfoldable pub entriesD : UnderD → Top → ℕ → ℕ → Level → Flow → ℕ → List ℕ → Went
-entriesD inner top depth zero l f n bs = okay tt f n bs
-entriesD inner top depth (suc k) l f n bs = after (entryD inner top depth l f n bs) (λ u g m cs. entriesD inner top depth k (took l) g m cs)
+unfoldable pub entryPartsD : UnderD → Top → ℕ → ℕ → Level → Flow → ℕ → List ℕ → Went
+entryPartsD inner top depth zero l f n bs = okay tt f n bs
+entryPartsD inner top depth (suc k) l f n bs = after (entryPartD inner top depth l f n bs) (λ u g m cs. entryPartsD inner top depth k (took l) g m cs)
 
 -- the entries of an index, with so many levels left; on level 5 no index is read (row 13)
 unfoldable pub underD : ℕ → Top → UnderD
 underD zero top depth l f n bs = cut (left f) n
-underD (suc levels) top depth l f n bs = entriesD (λ d l' g m cs. underD levels top d l' g m cs) top depth (l .count) l f n bs
+underD (suc levels) top depth l f n bs = entryPartsD (λ d l' g m cs. underD levels top d l' g m cs) top depth (l .count) l f n bs
 
 -- what follows the top index
-unfoldable pub materialD : Index → Flow → ℕ → List ℕ → Res Top Flow Left
+unfoldable pub materialD : IndexRead → Flow → ℕ → List ℕ → Res Top Flow Left
 materialD x f n bs =
     after (gapD (x .offset) (withNow f (x .time)) n bs)
     (λ u g m cs. after (underD 4 (topOf x) 1 (topLevel x n) g m cs) (λ v h k ds. okay (topOf x) h k ds))

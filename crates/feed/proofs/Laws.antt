@@ -16,7 +16,7 @@ use Rattle.state.specs.declared.FeedAnswer.the-variants as feeds
 use Rattle.state.specs.Step.{stepAll}
 use Rattle.state.specs.Calls.{Out, out, flowOf, stateOf, workOf, tableOf, answerOf, fed, feedState, feedOf}
 use Rattle.state.specs.Ranges.{bounds, inRange, InRange}
-use Rattle.state.proofs.Jump.{passing-there, passing-limit, run-passing}
+use Rattle.state.proofs.Jump.{passing-there, passing-limit, steps-passing}
 use Rattle.state.proofs.Cuts.{stateNext, state-join, feed-short, feed-outside, feed-inside}
 use Rattle.byte.specs.Answers.{answered}
 use Rattle.byte.proofs.Laws.{left-with}
@@ -82,7 +82,7 @@ passes-fed : (piece : List ℕ) (s : State) (i : ℕ) (work table : List ℕ) �
     feedState (passedOn s (passes s (length piece - i))) (drop (i + passes s (length piece - i)) piece) work table ≡ feedState s (drop i piece) work table
 unfolding passes passedOn feedState bounds
 passes-fed piece (state.Reading n leaves now last s) i work table r h =
-    ap fed (sym (run-passing piece i n s (flowOf leaves now last work table) (r .0) h))
+    ap fed (sym (steps-passing piece i n s (flowOf leaves now last work table) (r .0) h))
 passes-fed piece (state.Ended n leaves top) i work table r h = let e : i + 0 ≡ i = omega arith in rw e refl
 passes-fed piece (state.Refused n leaves x) i work table r h = refl
 passes-fed piece (state.Accepted n leaves top) i work table r h = refl

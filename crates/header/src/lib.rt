@@ -1,4 +1,4 @@
-// The header of a box, one byte of it at a time, and what its size shows once it is read.
+// The header of a box, one byte of it at a time, and what its size and the length of its body show once it is read.
 ghost use mathlib.Core.Path.{_≡_};
 ghost use mathlib.Core.List.{_++_};
 ghost use lib.Dec.{eqb};

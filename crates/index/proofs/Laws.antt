@@ -1,4 +1,4 @@
--- Two faults that one byte may show, tested one after the other, the lowest number first.
+-- Two faults that one byte may show, one test around the other, the lowest number outermost.
 use Prim.Native.Nat.{ℕ, _≤_, _<_}
 use mathlib.Core.Path.{_≡_, refl}
 use mathlib.Core.Bool.{Bool, true, false}

@@ -7,7 +7,7 @@ use native.Mathlib.Omega.{arith}
 use lib.Dec.{eqb, ltb, leb}
 use borrow.Author.Tests.{lt-ltb, le-ltb, le-leb, lt-leb, eq-eqb, ne-eqb, eqb-true, eqb-false}
 use Rattle.basics.proofs.Picks.{lt-or-ge}
-use Rattle.segment.specs.Constants.{timeLimit, wordLimit}
+use Rattle.segment.specs.Constants.{timeLimit}
 use Rattle.state.specs.Flow.{workBytes}
 use Rattle.state.specs.declared.Draft.{Draft}
 use Rattle.state.specs.declared.Sums.{Sums}
@@ -17,7 +17,7 @@ use Rattle.state.specs.declared.EntryPart.the-variants as entry
 use Rattle.state.specs.declared.Sidx.{Sidx}
 use Rattle.state.specs.declared.Sidx.the-variants as sidx
 use Rattle.state.specs.Sidx.{partOf, bytePlace}
-use Rattle.state.specs.Ranges.{Within, spelled, indexMost, sidxBounds, sizesRead, durationsRead}
+use Rattle.state.specs.Ranges.{Within, spelledBounds, indexMost, sidxBounds, sizesRead, durationsRead, wordLimit}
 use Rattle.state.proofs.RangeTests.{spelled-last}
 use Rattle.state.proofs.RangeNumbers.{index-most, word-most}
 use Rattle.header.proofs.Steps.{spelled-small}
@@ -52,7 +52,7 @@ place-most p e s more h k = let l = part-most p h in let m = word-most e in omeg
 
 -- A number before the entries: what the bytes before its last spell, and what it is once it is read.
 module _ (i : IndexPart) (d : Draft) (more acc : ℕ) (w : Within (sidxBounds (sidx.Field i d more acc))) where
-  field-spelled : Within (spelled (indexMost i (d .wide)) more acc)
+  field-spelled : Within (spelledBounds (indexMost i (d .wide)) more acc)
   unfolding sidxBounds
   field-spelled = w .1 .1 .1
 
@@ -68,7 +68,7 @@ module _ {s : Sidx} {i : EntryPart} {d : Draft} {sums : Sums} {more acc : ℕ}
   entry-within : Within (sidxBounds (sidx.Entry i d sums more acc))
   entry-within = rw e at w
 
-  entry-spelled : Within (spelled 3 more acc)
+  entry-spelled : Within (spelledBounds 3 more acc)
   unfolding sidxBounds
   entry-spelled = entry-within .1 .1 .1 .1 .1 .1 .1
 

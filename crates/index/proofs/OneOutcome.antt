@@ -6,7 +6,7 @@ use Rattle.basics.proofs.Outcomes.{left-inverse-equal}
 use Rattle.basics.specs.Outcome.{Coincide, OneOutcome, afterCall}
 use Rattle.machine.specs.Run.{Sub, go, done, bad}
 use Rattle.state.specs.declared.Sidx.{Sidx}
-use Rattle.state.specs.declared.Index.{Index}
+use Rattle.state.specs.declared.IndexRead.{IndexRead}
 use Rattle.state.specs.Flow.{Flow, Left}
 use Rattle.state.specs.Calls.{flowOf}
 use Rattle.index.specs.Views.{viewIndex}
@@ -23,7 +23,7 @@ use Rattle.index.proofs.index_byte.Kinds as byte-kinds
 use Rattle.index.proofs.index_byte.Reads as byte-stated
 
 -- the answer and the work area that a machine's answer is a view of
-abbrev seenIndex : Sub Sidx Index Flow Left → IndexStep × List ℕ
+abbrev seenIndex : Sub Sidx IndexRead Flow Left → IndexStep × List ℕ
 seenIndex (go s f) = (steps.Taken (so.Going s), f .work)
 seenIndex (done x f) = (steps.Taken (so.Read x), f .work)
 seenIndex (bad x l) = (steps.Bad x, l .work)

@@ -1,12 +1,13 @@
 -- What the code's answers say in the definition's words.
 use Prim.Native.Nat.{ℕ, _*_, _≤_, _<_}
-use Rattle.segment.specs.Constants.{wordLimit, typeBit, mostEntries}
+use Rattle.segment.specs.Constants.{typeBit, mostEntries}
+use Rattle.state.specs.Ranges.{wordLimit}
 use Rattle.machine.specs.Faults.{refusal}
 use Rattle.machine.specs.Run.{Sub, go, done, bad}
 use Rattle.machine.specs.declared.Refusal.{Refusal}
 use Rattle.state.specs.declared.Sums.{Sums}
 use Rattle.state.specs.declared.Sidx.{Sidx}
-use Rattle.state.specs.declared.Index.{Index}
+use Rattle.state.specs.declared.IndexRead.{IndexRead}
 use Rattle.state.specs.Flow.{Flow, Left, left}
 use Rattle.state.specs.Sidx.{Place, topmost, under}
 use Rattle.index.specs.declared.Where.{Where}
@@ -20,7 +21,7 @@ placeOf places.Topmost = topmost
 placeOf (places.Under top slot depth) = under top slot depth
 
 -- an answer, while this flows
-abbrev pub viewIndex : Flow → IndexStep → Sub Sidx Index Flow Left
+abbrev pub viewIndex : Flow → IndexStep → Sub Sidx IndexRead Flow Left
 viewIndex f (steps.Taken (so.Going s)) = go s f
 viewIndex f (steps.Taken (so.Read x)) = done x f
 viewIndex f (steps.Bad x) = bad x (left f)

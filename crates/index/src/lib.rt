@@ -3,8 +3,8 @@ use machine::Refusal;
 use state::Draft;
 use state::ENTRY_BYTES;
 use state::EntryPart;
-use state::Index;
 use state::IndexPart;
+use state::IndexRead;
 use state::LAST_TIME;
 use state::LEVEL_BYTES;
 use state::LIMIT;
@@ -21,12 +21,12 @@ ghost use mathlib.Core.Bool.{_&&_, _||_, not};
 ghost use Prim.Native.Nat.{ℕ, suc, _+_, _-_, _<_, _≤_, _*_, _^_, _%_};
 ghost use lib.Dec.{eqb, ltb, leb};
 ghost use lib.ListN.{length};
-ghost use Rattle.segment.specs.Constants.{limit, timeLimit, wordLimit, typeBit, mostEntries};
+ghost use Rattle.segment.specs.Constants.{limit, timeLimit, typeBit, mostEntries};
 ghost use Rattle.machine.specs.Run.{bad};
 ghost use Rattle.machine.specs.Faults.{shows, unless};
 ghost use Rattle.state.specs.Flow.{Flow, left, workBytes};
 ghost use Rattle.state.specs.Sidx.{Place, partOf, wideMore, closeSidx, fieldEnds, entryEnds, wordPlace, bytePlace, sidxStart, stepSidx};
-ghost use Rattle.state.specs.Ranges.{Within, sidxBounds, indexMost};
+ghost use Rattle.state.specs.Ranges.{Within, sidxBounds, indexMost, wordLimit};
 ghost use Rattle.state.specs.Calls.{flowOf};
 ghost use Rattle.index.specs.Views.{placeOf, viewIndex, refusalIndex, Shallow, Timely, Summed};
 
@@ -45,7 +45,7 @@ pub enum IndexStep {
 // An index so far: it goes on, or it is read.
 pub enum IndexSo {
     Going(Sidx),
-    Read(Index),
+    Read(IndexRead),
 }
 
 // The refusal that goes out where a byte of an index was not taken; of a byte that was taken there is none.
@@ -282,7 +282,7 @@ fn field_end(
 }
 
 // The material ends past the last byte that a segment has, or start plus durations is no time; the index ends with the n-th byte.
-fn too_much(x: Index, n: u64) -> bool
+fn too_much(x: IndexRead, n: u64) -> bool
     requires { ⌜ n ≤ limit ⌝ }
     ensures { λ r. ⌜ r ≡ (ltb limit (n + x .offset + x .sizes) || leb timeLimit (x .time + x .durations)) ⌝ }
 {
@@ -297,7 +297,7 @@ fn too_much(x: Index, n: u64) -> bool
 }
 
 // The sums of an inner index are not what its entry says.
-fn other_sums(slot: Slot, x: Index, at: u64, n: u64) -> bool
+fn other_sums(slot: Slot, x: IndexRead, at: u64, n: u64) -> bool
     requires { ⌜ (at ≤ slot .until) × (x .sizes ≤ typeBit * mostEntries) × (n ≤ limit) ⌝ }
     ensures { λ r. ⌜ r ≡ not (eqb (n + x .sizes) (slot .end) && eqb (at + x .durations) (slot .until)) ⌝ }
 {
@@ -308,7 +308,7 @@ fn other_sums(slot: Slot, x: Index, at: u64, n: u64) -> bool
 }
 
 // The entries are read, the n-th byte was the last.
-fn close_index(p: Where, span: Span, x: Index, at: u64, n: u64) -> IndexStep
+fn close_index(p: Where, span: Span, x: IndexRead, at: u64, n: u64) -> IndexStep
     requires { ⌜ Timely p at × (x .sizes ≤ typeBit * mostEntries) × (n ≤ limit) ⌝ }
     ensures { λ r. ⌜
         ((leaves last : ℕ) (work table : List ℕ) →
@@ -372,7 +372,7 @@ fn sap_end(p: Where, span: Span, draft: Draft, sums: Sums, at: u64, n: u64) -> I
         ⌝ }
 {
     if sums.next + 1 == sums.count {
-        let x = Index {
+        let x = IndexRead {
             id: draft.id,
             scale: draft.scale,
             time: draft.time,
@@ -423,7 +423,7 @@ fn entry_end(
 }
 
 // A number of an entry goes on.
-fn next_entry(part: EntryPart, draft: Draft, sums: Sums, more: u64, acc: u64) -> IndexStep
+fn entry_on(part: EntryPart, draft: Draft, sums: Sums, more: u64, acc: u64) -> IndexStep
     ensures { λ r. ⌜ r ≡ IndexStep.Taken (IndexSo.Going (Sidx.Entry part draft sums more acc)) ⌝ }
 {
     IndexStep::Taken(IndexSo::Going(Sidx::Entry {
@@ -546,7 +546,7 @@ pub fn index_byte(
             if more == 0 {
                 return entry_end(p, span, part, draft, sums, v, at, n + 1);
             }
-            next_entry(part, draft, sums, more - 1, v)
+            entry_on(part, draft, sums, more - 1, v)
         }
     }
 }

@@ -6,7 +6,7 @@ use Rattle.basics.proofs.Outcomes.{left-inverse-equal}
 use Rattle.basics.specs.Outcome.{Coincide, afterCall}
 use Rattle.machine.specs.Run.{Sub, go, done, bad}
 use Rattle.machine.specs.Lists.{BoxPhase, inHead, inBody}
-use Rattle.state.specs.declared.Index.{Index}
+use Rattle.state.specs.declared.IndexRead.{IndexRead}
 use Rattle.state.specs.declared.InnerBox.the-variants as boxes
 use Rattle.state.specs.Flow.{Flow, Left}
 use Rattle.state.specs.Stages.{InnerBody}
@@ -18,7 +18,7 @@ use Rattle.inner.proofs.inner_byte.Kinds as byte-kinds
 use Rattle.inner.proofs.inner_byte.Reads as byte-stated
 
 -- the answer and the work area that a machine's answer is a view of
-abbrev seenInner : Sub (BoxPhase InnerBody) Index Flow Left → InnerStep × List ℕ
+abbrev seenInner : Sub (BoxPhase InnerBody) IndexRead Flow Left → InnerStep × List ℕ
 seenInner (go (inHead h) f) = (inners.Go (boxes.Head h), f .work)
 seenInner (go (inBody s) f) = (inners.Go (boxes.Body (s .span) (s .sidx)), f .work)
 seenInner (done x f) = (inners.Done x, f .work)

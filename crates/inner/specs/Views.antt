@@ -9,7 +9,7 @@ use Rattle.state.specs.declared.Span.{Span}
 use Rattle.state.specs.declared.Top.{Top}
 use Rattle.state.specs.declared.Slot.{Slot}
 use Rattle.state.specs.declared.Sidx.{Sidx}
-use Rattle.state.specs.declared.Index.{Index}
+use Rattle.state.specs.declared.IndexRead.{IndexRead}
 use Rattle.state.specs.declared.InnerBox.{InnerBox}
 use Rattle.state.specs.declared.InnerBox.the-variants as boxes
 use Rattle.state.specs.Flow.{Flow, Left, left}
@@ -22,16 +22,16 @@ abbrev pub innerPhase : InnerBox → BoxPhase InnerBody
 innerPhase (boxes.Head h) = inHead h
 innerPhase (boxes.Body span s) = inBody (record { span = span; sidx = s })
 
-abbrev pub viewInner : Flow → InnerStep → Sub (BoxPhase InnerBody) Index Flow Left
+abbrev pub viewInner : Flow → InnerStep → Sub (BoxPhase InnerBody) IndexRead Flow Left
 viewInner f (inners.Go s) = go (innerPhase s) f
 viewInner f (inners.Done x) = done x f
 viewInner f (inners.Bad x) = bad x (left f)
 
 -- what the box makes of a header's answer, `m` bytes up to the one at hand, and of the index's
-abbrev pub headInner : Top → Slot → ℕ → ℕ → Sub Head Header Flow Left → Sub (BoxPhase InnerBody) Index Flow Left
+abbrev pub headInner : Top → Slot → ℕ → ℕ → Sub Head Header Flow Left → Sub (BoxPhase InnerBody) IndexRead Flow Left
 headInner top slot depth m r = lift inHead (λ h f. headed (innerKind top slot depth) h f m) bad r
 
-abbrev pub bodyInner : Span → Sub Sidx Index Flow Left → Sub (BoxPhase InnerBody) Index Flow Left
+abbrev pub bodyInner : Span → Sub Sidx IndexRead Flow Left → Sub (BoxPhase InnerBody) IndexRead Flow Left
 bodyInner span r = lift inBody done bad (liftSidx span r)
 
 -- what code needs to stay inside its numbers: those of a header, and an index on level 4 at the most

@@ -27,7 +27,7 @@ use index::IndexStep;
 use index::Where;
 use machine::Header;
 use machine::Refusal;
-use state::Index;
+use state::IndexRead;
 use state::InnerBox;
 use state::Slot;
 use state::Span;
@@ -39,7 +39,7 @@ const LEVELS: u64 = 4;
 // What a byte makes of the first box of an index entry: it goes on, the inner index is read, or it is refused.
 pub enum InnerStep {
     Go(InnerBox),
-    Done(Index),
+    Done(IndexRead),
     Bad(Refusal),
 }
 

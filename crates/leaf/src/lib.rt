@@ -297,7 +297,7 @@ fn leaf_on(slot: Slot, so: LeafSo, full: bool, n: u64) -> LeafStep
 }
 
 // What is known of a leaf after a box.
-fn leaf_after(so: LeafSo, p: Pass) -> LeafSo
+fn leaf_now(so: LeafSo, p: Pass) -> LeafSo
     ensures { λ r. ⌜ r ≡ leafNow so (passedOf p) ⌝ }
 {
     match p {
@@ -312,7 +312,7 @@ fn after_leaf_body(slot: Slot, so: LeafSo, full: bool, r: LeafBodyStep, n: u64) 
 {
     match r {
         LeafBodyStep::Go(s) => LeafStep::Go(LeafBoxes::Body(so, s)),
-        LeafBodyStep::Done(p) => leaf_on(slot, leaf_after(so, p), full, n),
+        LeafBodyStep::Done(p) => leaf_on(slot, leaf_now(so, p), full, n),
         LeafBodyStep::Bad(x) => LeafStep::Bad(worse_in_leaf(slot, so, full, x, n)),
     }
 }

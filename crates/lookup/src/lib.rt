@@ -83,7 +83,7 @@ fn look_in(leaves: usize, table: &[u64], t: u64) -> LookupAnswer
     outside_list(leaves, table, t)
 }
 
-// The leaves are counted by a quotient, since six numbers a leaf may not fit.
+// The leaves are counted by a quotient, since the numbers of all records may not fit.
 fn look_among(leaves: u64, table: &[u64], t: u64) -> LookupAnswer
     ensures { λ r. ⌜ r ≡ pick (ltb (length (now (table .entry))) (recordNumbers * leaves)) (answer.Refused (refusal 25 0)) (lookIn leaves (now (table .entry)) t) ⌝ }
 {

@@ -63,7 +63,7 @@ module _ {R F L : Type 0} (left : F → L) (keep : F → ℕ → ℕ → F) (k :
 abbrev pub plain : {F : Type 0} → F → ℕ → ℕ → F
 plain f m b = f
 
--- bytes that are not looked at, up to a place
+-- so many bytes that are not looked at
 unfoldable pub skipD : {F L : Type 0} → (F → L) → ℕ → F → ℕ → List ℕ → Res (Unit {0}) F L
 skipD left zero f n bs = okay tt f n bs
 skipD left (suc m) f n [] = cut (left f) n

@@ -13,7 +13,7 @@ use Rattle.state.specs.declared.Levels.{Levels}
 use Rattle.state.specs.declared.Levels.the-variants as levels
 use Rattle.state.specs.declared.Slot.{Slot}
 use Rattle.state.specs.declared.Seen.{Seen}
-use Rattle.state.specs.declared.Index.{Index}
+use Rattle.state.specs.declared.IndexRead.{IndexRead}
 use Rattle.state.specs.declared.GapBoxes.the-variants as gaps
 use Rattle.state.specs.declared.InnerBox.{InnerBox}
 use Rattle.state.specs.declared.InnerBox.the-variants as inners
@@ -32,7 +32,7 @@ use Rattle.next_stage.specs.Views.{flowing, viewStage}
 use Rattle.next_stage.specs.Arms.{tableAfter}
 
 -- the top index ends: the material follows at once, or the gap does
-module _ (x : Index) (f : Flow) (n : ℕ) where
+module _ (x : IndexRead) (f : Flow) (n : ℕ) where
   pub material-follows : x .offset ≡ 0 → follow (topOf x) (levels.One (topLevel x n)) (withNow f (x .time)) ≡ indexEnds x f n
   unfolding indexEnds
   material-follows e = sym (pick-yes _ _ _ (eq-eqb (x .offset) 0 e))

@@ -8,7 +8,7 @@ use Rattle.state.specs.declared.Top.{Top}
 use Rattle.state.specs.declared.Level.{Level}
 use Rattle.state.specs.declared.Levels.the-variants as levels
 use Rattle.state.specs.declared.Slot.{Slot}
-use Rattle.state.specs.declared.Index.{Index}
+use Rattle.state.specs.declared.IndexRead.{IndexRead}
 use Rattle.state.specs.declared.OpeningBoxes.{OpeningBoxes}
 use Rattle.state.specs.declared.GapBoxes.{GapBoxes}
 use Rattle.state.specs.declared.Stage.{Stage}
@@ -21,11 +21,11 @@ use Rattle.leaf.specs.declared.LeafStep.{LeafStep}
 use Rattle.leaf.specs.declared.LeafStep.the-variants as leaves
 
 -- the boxes up to the top index, which ends at byte n where it does
-abbrev pub liftOpening : ℕ → ℕ → Sub OpeningBoxes Index Flow Left → Sub Stage Top Flow Left
+abbrev pub liftOpening : ℕ → ℕ → Sub OpeningBoxes IndexRead Flow Left → Sub Stage Top Flow Left
 liftOpening brand n r = lift (stage.Opening brand) (λ x g. indexEnds x g n) bad r
 
 -- where the top index ends at byte n, where and when its material ends are words
-abbrev pub Ends : ℕ → Index → Type 0
+abbrev pub Ends : ℕ → IndexRead → Type 0
 Ends n x = (n + x .offset + x .sizes < timeLimit) × (x .time + x .durations < timeLimit)
 
 abbrev pub EndsIn : ℕ → OpeningStep → Type 0

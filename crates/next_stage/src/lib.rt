@@ -7,7 +7,7 @@ use machine::Refusal;
 use opening::GapStep;
 use opening::OpeningStep;
 use state::GapBoxes;
-use state::Index;
+use state::IndexRead;
 use state::Level;
 use state::Levels;
 use state::Slot;
@@ -59,7 +59,7 @@ fn follow(top: Top, ls: Levels, r: Running) -> StageStep
 }
 
 // The top index ends at byte `n`: the gap follows, or the material.
-fn index_ends(x: Index, r: Running, n: u64) -> StageStep
+fn index_ends(x: IndexRead, r: Running, n: u64) -> StageStep
     requires { ⌜ Ends n x ⌝ }
     ensures { λ q. ⌜ ((leaves : ℕ) (work table : List ℕ) → viewStage leaves work table q ≡ defs.indexEnds x (flowing r work table) n) ⌝ }
 {

@@ -5,7 +5,7 @@ use mathlib.Core.List.{List, []}
 use Rattle.basics.proofs.Outcomes.{left-inverse-equal}
 use Rattle.basics.specs.Outcome.{Coincide, afterCall}
 use Rattle.machine.specs.Run.{Sub, go, done, bad}
-use Rattle.state.specs.declared.Index.{Index}
+use Rattle.state.specs.declared.IndexRead.{IndexRead}
 use Rattle.state.specs.declared.GapBoxes.{GapBoxes}
 use Rattle.state.specs.declared.OpeningBoxes.{OpeningBoxes}
 use Rattle.state.specs.Flow.{Flow, Left}
@@ -31,7 +31,7 @@ seen-gap f (gaps.Go s) = refl
 seen-gap f gaps.Done = refl
 seen-gap f (gaps.Bad x) = refl
 
-abbrev seenOpening : Sub OpeningBoxes Index Flow Left → OpeningStep × List ℕ
+abbrev seenOpening : Sub OpeningBoxes IndexRead Flow Left → OpeningStep × List ℕ
 seenOpening (go s f) = (openings.Go s, f .work)
 seenOpening (done x f) = (openings.Done x, f .work)
 seenOpening (bad x l) = (openings.Bad x, l .work)

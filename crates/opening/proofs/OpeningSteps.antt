@@ -14,7 +14,7 @@ use Rattle.machine.proofs.Faults.{unless-both}
 use Rattle.state.specs.declared.Span.{Span}
 use Rattle.state.specs.declared.Draft.{Draft}
 use Rattle.state.specs.declared.Sums.{Sums}
-use Rattle.state.specs.declared.Index.{Index}
+use Rattle.state.specs.declared.IndexRead.{IndexRead}
 use Rattle.state.specs.declared.Sidx.{Sidx}
 use Rattle.state.specs.declared.Sidx.the-variants as sidxs
 use Rattle.state.specs.declared.IndexPart.{IndexPart}
@@ -39,7 +39,7 @@ unfolding beginOpening
 skipped h f m y z = sym (pick-no _ _ _ (ne-eqb _ _ y) ∙ pick-no _ _ _ (ne-eqb _ _ z))
 
 -- an answer with the next entry's start at the time `t`
-unfoldable pub timed : ℕ → Sub Sidx Index Flow Left → Sub Sidx Index Flow Left
+unfoldable pub timed : ℕ → Sub Sidx IndexRead Flow Left → Sub Sidx IndexRead Flow Left
 timed t (go s f) = go s (withNow f t)
 timed t (done x f) = done x (withNow f t)
 timed t (bad x l) = bad x l
@@ -92,5 +92,5 @@ pub index-step : (brand : ℕ) (branded : Bool) (m leaves at last : ℕ) (entry 
     ≡ bodyOpening brand branded m (stepOpeningBody brand (body.Index span i) (flowOf leaves at last entry table) n b)
 unfolding stepOpeningBody
 index-step brand branded m leaves at last entry exit table span i n b r e =
-    ap (λ (q : Sub Sidx Index Flow Left). bodyOpening brand branded m (lift (body.Index span) (λ x g. done (indexed x) g) bad q))
+    ap (λ (q : Sub Sidx IndexRead Flow Left). bodyOpening brand branded m (lift (body.Index span) (λ x g. done (indexed x) g) bad q))
     (any-time leaves at last entry exit table span i n b r e)

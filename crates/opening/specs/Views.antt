@@ -6,7 +6,7 @@ use Rattle.machine.specs.declared.Head.{Head}
 use Rattle.machine.specs.declared.Header.{Header}
 use Rattle.state.specs.declared.GapBoxes.{GapBoxes}
 use Rattle.state.specs.declared.OpeningBoxes.{OpeningBoxes}
-use Rattle.state.specs.declared.Index.{Index}
+use Rattle.state.specs.declared.IndexRead.{IndexRead}
 use Rattle.state.specs.declared.OpeningBody.{OpeningBody}
 use Rattle.header.specs.Views.{afterHead, afterBody}
 use Rattle.state.specs.Flow.{Flow, Left, left}
@@ -23,7 +23,7 @@ viewGap f (gaps.Go s) = go s f
 viewGap f gaps.Done = done tt f
 viewGap f (gaps.Bad x) = bad x (left f)
 
-abbrev pub viewOpening : Flow → OpeningStep → Sub OpeningBoxes Index Flow Left
+abbrev pub viewOpening : Flow → OpeningStep → Sub OpeningBoxes IndexRead Flow Left
 viewOpening f (openings.Go s) = go s f
 viewOpening f (openings.Done x) = done x f
 viewOpening f (openings.Bad x) = bad x (left f)
@@ -36,8 +36,8 @@ abbrev pub bodyGap : ℕ → ℕ → Sub ℕ (Unit {0}) Flow Left → Sub GapBox
 bodyGap end m r = afterBody (gapBoxes end) wrapGap tt m r
 
 -- the same up to the top index
-abbrev pub headOpening : ℕ → Bool → ℕ → Sub Head Header Flow Left → Sub OpeningBoxes Index Flow Left
+abbrev pub headOpening : ℕ → Bool → ℕ → Sub Head Header Flow Left → Sub OpeningBoxes IndexRead Flow Left
 headOpening brand branded m r = afterHead (opening brand) wrapOpening branded m r
 
-abbrev pub bodyOpening : ℕ → Bool → ℕ → Sub OpeningBody OpeningGave Flow Left → Sub OpeningBoxes Index Flow Left
+abbrev pub bodyOpening : ℕ → Bool → ℕ → Sub OpeningBody OpeningGave Flow Left → Sub OpeningBoxes IndexRead Flow Left
 bodyOpening brand branded m r = afterBody (opening brand) wrapOpening branded m r

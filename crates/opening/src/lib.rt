@@ -33,7 +33,7 @@ use machine::Head;
 use machine::Header;
 use machine::Refusal;
 use state::GapBoxes;
-use state::Index;
+use state::IndexRead;
 use state::LIMIT;
 use state::OpeningBody;
 use state::OpeningBoxes;
@@ -43,7 +43,7 @@ use state::StypPart;
 // What a byte makes of the boxes up to the top index: they go on, the top index is read, or it is refused.
 pub enum OpeningStep {
     Go(OpeningBoxes),
-    Done(Index),
+    Done(IndexRead),
     Bad(Refusal),
 }
 

@@ -83,7 +83,7 @@ unfolding
     DescentOpening.brandsD DescentOpening.stypD DescentOpening.openingBodyD
     DescentSidx.closeD DescentSidx.entryD DescentSidx.entriesD DescentSidx.countedD DescentSidx.countD DescentSidx.reservedD
     DescentSidx.offsetD DescentSidx.timeD DescentSidx.scaleD DescentSidx.idD DescentSidx.flagsD DescentSidx.versionD DescentSidx.sidxD
-    Whole.gapD Whole.slotD Whole.readBackD Whole.entryD Whole.entriesD Whole.underD Whole.materialD Whole.segmentD Whole.outcome Whole.wholeD
+    Whole.gapD Whole.slotD Whole.readBackD Whole.entryPartD Whole.entryPartsD Whole.underD Whole.materialD Whole.segmentD Whole.outcome Whole.wholeD
 theDescent = tt
 
 -- the lookup, and the records of leaves

@@ -6,7 +6,7 @@ use mathlib.Core.Bool.{Bool, true, false, _&&_}
 use native.Mathlib.Omega.{arith}
 use lib.Dec.{leb}
 use borrow.Author.Tests.{le-leb, lt-leb}
-use Rattle.state.specs.Ranges.{Bound, atMost, below, within, spelled, trafMost, indexMost, sizesRead, durationsRead}
+use Rattle.state.specs.Ranges.{Bound, atMost, below, within, spelledBounds, trafMost, indexMost, sizesRead, durationsRead}
 use Rattle.state.specs.Sidx.{wideMore}
 use Rattle.state.specs.declared.TrafPart.{TrafPart}
 use Rattle.state.specs.declared.TrafPart.the-variants as trafPart

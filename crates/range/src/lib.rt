@@ -8,7 +8,7 @@ ghost use Rattle.table.specs.Table.{mostRecords};
 ghost use Rattle.state.specs.Levels.{inmost};
 ghost use Rattle.state.specs.Sidx.{wideMore};
 ghost use Rattle.state.specs.declared.Levels.{Levels};
-ghost use Rattle.state.specs.Ranges.{atMost, below, within, spelled, headBounds, trafMost, trafBodyBounds, trafBounds, moofBodyBounds};
+ghost use Rattle.state.specs.Ranges.{atMost, below, within, spelledBounds, headBounds, trafMost, trafBodyBounds, trafBounds, moofBodyBounds};
 ghost use Rattle.state.specs.Ranges.{moofBounds, leafBodyBounds, leafBounds, indexMost, scaleLeast, draftBounds, sizesRead, durationsRead, sumsBounds};
 ghost use Rattle.state.specs.Ranges.{sidxBounds, openingBodyBounds, openingBounds, gapBounds, topBounds, levelBounds, levelsBounds};
 ghost use Rattle.state.specs.Ranges.{slotBounds, innerBounds, stageBounds, inRange};
@@ -101,7 +101,7 @@ fn power(k: u64) -> u64
 // A number that is being read: what its bytes spell so far.
 fn spelling_fits(most: u64, more: u64, acc: u64) -> bool
     requires { ⌜ most < 8 ⌝ }
-    ensures { λ r. ⌜ r ≡ within (spelled most more acc) ⌝ }
+    ensures { λ r. ⌜ r ≡ within (spelledBounds most more acc) ⌝ }
 {
     if most < more {
         return false;
@@ -111,7 +111,7 @@ fn spelling_fits(most: u64, more: u64, acc: u64) -> bool
 
 fn head_number_fits(pos: u64, most: u64, more: u64, acc: u64) -> bool
     requires { ⌜ most < 8 ⌝ }
-    ensures { λ r. ⌜ r ≡ within (atMost pos 268435456 ∷ spelled most more acc) ⌝ }
+    ensures { λ r. ⌜ r ≡ within (atMost pos 268435456 ∷ spelledBounds most more acc) ⌝ }
 {
     both(at_most(pos, LIMIT), spelling_fits(most, more, acc))
 }

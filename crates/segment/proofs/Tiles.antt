@@ -13,7 +13,7 @@ use Rattle.basics.proofs.Options.{then-inv}
 use Rattle.segment.specs.Constants.{levels}
 use Rattle.segment.specs.Boxes.{Entry, sizes, durations}
 use Rattle.segment.specs.Leaves.{leafTimes}
-use Rattle.segment.specs.Tree.{Opened, Part, leafPart, indexPart, leafOf, Under, entryParts, tile, innerIndex, underIndex}
+use Rattle.segment.specs.Tree.{Opened, Part, leafPart, indexPart, leafOf, PartsUnder, entryParts, tile, innerIndex, underIndex}
 use Rattle.segment.specs.Parts.{materialStart}
 use Rattle.segment.proofs.Said.{Inner, inner-says}
 use Rattle.segment.proofs.Stands.{Made}
@@ -31,10 +31,10 @@ pub record Grows (id scale : ℕ) (K : Fact) : Type 0 where
   pub both : (p s d d' : ℕ) (xs ys : List ℕ) (ps qs : List Part) → K p s d xs ps → K (p + length xs) (s + d) d' ys qs → K p s (d + d') (xs ++ ys) (ps ++ qs)
 
 module _ (id scale : ℕ) (K : Fact) (grows : Grows id scale K) where
-  abbrev Over : Under → Type 0
+  abbrev Over : PartsUnder → Type 0
   Over under = (p s d : ℕ) (xs : List ℕ) (ps : List Part) → under p s d xs ≡ some ps → K p s d xs ps
 
-  entry-by : (under : Under) → Over under → (p s : ℕ) (e : Entry) (xs : List ℕ) (ps : List Part) → length xs ≡ e .size → entryParts id under p s e xs ≡ some ps → K p s (e .duration) xs ps
+  entry-by : (under : PartsUnder) → Over under → (p s : ℕ) (e : Entry) (xs : List ℕ) (ps : List Part) → length xs ≡ e .size → entryParts id under p s e xs ≡ some ps → K p s (e .duration) xs ps
   unfolding entryParts pick
   entry-by under over p s e xs ps long h = at (eqb (e .kind) 0) h
     where
@@ -42,7 +42,7 @@ module _ (id scale : ℕ) (K : Fact) (grows : Grows id scale K) where
       at true g = let (ts, read, q) = then-inv (leafTimes id xs) _ ps g in subst (K p s (e .duration) xs) (Option·some-injective _ _ q) (grows .leaf p s e xs ts long read)
       at false g = over p s (e .duration) xs ps g
 
-  tile-by : (under : Under) → Over under → (es : List Entry) (p s : ℕ) (xs : List ℕ) (ps : List Part) → length xs ≡ sizes es → tile id under p s es xs ≡ some ps → K p s (durations es) xs ps
+  tile-by : (under : PartsUnder) → Over under → (es : List Entry) (p s : ℕ) (xs : List ℕ) (ps : List Part) → length xs ≡ sizes es → tile id under p s es xs ≡ some ps → K p s (durations es) xs ps
   unfolding tile sizes durations
   tile-by under over [] p s [] ps long h = subst (K p s 0 []) (Option·some-injective _ _ h) (grows .nothing p s)
   tile-by under over [] p s (x ∷ xs) ps long h = absurd (omega arith)

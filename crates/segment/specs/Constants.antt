@@ -9,10 +9,6 @@ limit = 268435456
 abbrev pub timeLimit : ℕ
 timeLimit = 18446744073709551616
 
--- every number of 32 bits is below this
-abbrev pub wordLimit : ℕ
-wordLimit = 4294967296
-
 -- the most levels of indexes, with the top one
 abbrev pub levels : ℕ
 levels = 4

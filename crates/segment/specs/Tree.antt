@@ -71,21 +71,22 @@ pub data Part : Type 0 where
   leafPart : Leaf → List ℕ → Part
   indexPart : ℕ → ℕ → Part
 
--- the leaf of an entry at a position, with its start and its decode times
+-- the first of a leaf's decode times
 unfoldable pub firstTime : List ℕ → ℕ
 firstTime [] = 0
 firstTime (t ∷ ts) = t
 
+-- the leaf of an entry at a position, with its start and its decode times
 abbrev pub leafOf : ℕ → ℕ → Entry → List ℕ → Leaf
 leafOf position start e times =
     record { position = position; size = e .size; start = start; duration = e .duration; sap = e .sap; time = firstTime times }
 
 -- the parts under an index entry: of its position, its start, its duration and its bytes
-abbrev pub Under : Type 0
-Under = ℕ → ℕ → ℕ → List ℕ → Option (List Part)
+abbrev pub PartsUnder : Type 0
+PartsUnder = ℕ → ℕ → ℕ → List ℕ → Option (List Part)
 
 -- Rule 3. Type 0 is a leaf. Type 1 covers an inner index followed by all that it indexes.
-unfoldable pub entryParts : ℕ → Under → ℕ → ℕ → Entry → List ℕ → Option (List Part)
+unfoldable pub entryParts : ℕ → PartsUnder → ℕ → ℕ → Entry → List ℕ → Option (List Part)
 entryParts track under position start e xs =
     pick (eqb (e .kind) 0)
     (andThen (leafTimes track xs) (λ times. some (leafPart (leafOf position start e times) times ∷ [])))
@@ -93,7 +94,7 @@ entryParts track under position start e xs =
 
 -- Rules 3 and 7. Entries lie end to end, in order, and each starts where the last ended. Rules 2 and 4 make the bytes as many as the
 -- entry sizes say.
-unfoldable pub tile : ℕ → Under → ℕ → ℕ → List Entry → List ℕ → Option (List Part)
+unfoldable pub tile : ℕ → PartsUnder → ℕ → ℕ → List Entry → List ℕ → Option (List Part)
 tile track under position start [] xs = some []
 tile track under position start (e ∷ es) xs =
     andThen (entryParts track under position start e (take (e .size) xs)) (λ parts.
@@ -120,7 +121,7 @@ innerIndex id scale start duration xs =
 
 -- Rule 3. The tree under an index entry obeys the same rule at every level, with so many levels left: the box of the inner index, and then
 -- the parts of that index's entries.
-unfoldable pub underIndex : ℕ → ℕ → ℕ → Under
+unfoldable pub underIndex : ℕ → ℕ → ℕ → PartsUnder
 underIndex id scale zero position start duration xs = none
 underIndex id scale (suc left) position start duration xs =
     andThen (innerIndex id scale start duration xs) (λ inner.

@@ -22,7 +22,7 @@ use Rattle.basics.specs.Put.{putAll}
 use Rattle.state.specs.Step.{stepAll}
 use Rattle.state.specs.Calls.{Out, flowOf, stateOf, fed, feedState}
 use Rattle.state.specs.Numbers.{stageNumber, stageOn, workOn, putIn, Short, Fits}
-use Rattle.state.specs.Ranges.{Within, InRange, spelled, bounds, stageBounds}
+use Rattle.state.specs.Ranges.{Within, InRange, spelledBounds, bounds, stageBounds}
 use Rattle.state.specs.Jump.{least}
 use Rattle.basics.proofs.Bytes.{each-byte-all, bytes-first, all-drop}
 use Rattle.state.proofs.Jump.{least-first, least-second}
@@ -69,9 +69,9 @@ others-stay (state.Accepted n leaves top) piece i work e = refl
 
 -- The stage whose number is told as `x`, and `k` of its bytes.
 module _ (s : Stage) (x : AtHand) (k : ℕ) (piece : List ℕ) (i : ℕ) (work : List ℕ) (e : x ≡ atHandOf (stageNumber s)) where
-  pub acc-fits : Fits (stageNumber s) → k ≤ x .more → Within (spelled 7 k (x .acc))
+  pub acc-fits : Fits (stageNumber s) → k ≤ x .more → Within (spelledBounds 7 k (x .acc))
   acc-fits fits most =
-      let w : Within (spelled 7 (x .more) (x .acc)) = rw e (fits .0) in
+      let w : Within (spelledBounds 7 (x .more) (x .acc)) = rw e (fits .0) in
       spelled-within 7 (x .more) 7 k (x .acc) (omega (arith, w .0)) (omega arith) w
 
   pub bytes-fit : (m : ℕ) → m ≡ pick (x .stored) k 0 → Fits (stageNumber s) → k ≤ x .more → i + k ≤ length piece → workBytes ≤ length work →

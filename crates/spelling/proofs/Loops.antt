@@ -7,7 +7,7 @@ use lib.ListN.{length, getD, set, length-set, take, drop}
 use lib.Seq.{drop-cons}
 use Rattle.basics.specs.Bytes.{numberFrom}
 use Rattle.basics.specs.Put.{putAll}
-use Rattle.state.specs.Ranges.{Within, spelled}
+use Rattle.state.specs.Ranges.{Within, spelledBounds}
 use Rattle.state.proofs.RangeTests.{spelled-next}
 
 -- of `k` bytes from `i` on, those from the `j`-th on: it, and those after it
@@ -24,9 +24,9 @@ module _ (piece : List ℕ) (i k : ℕ) where
   -- after `j` bytes they spell `r`, and with the others what all of them spell
   abbrev pub Spells : ℕ → ℕ → ℕ → Type 0
   Spells acc j r =
-      (j ≤ k) × Within (spelled 7 (k - j) r) × (numberFrom r (take (k - j) (drop (i + j) piece)) ≡ numberFrom acc (take k (drop i piece)))
+      (j ≤ k) × Within (spelledBounds 7 (k - j) r) × (numberFrom r (take (k - j) (drop (i + j) piece)) ≡ numberFrom acc (take k (drop i piece)))
 
-  pub spells-first : (acc : ℕ) → Within (spelled 7 k acc) → Spells acc 0 acc
+  pub spells-first : (acc : ℕ) → Within (spelledBounds 7 k acc) → Spells acc 0 acc
   spells-first acc w =
       let a : k - 0 ≡ k = omega arith in
       let b : i + 0 ≡ i = omega arith in

@@ -16,7 +16,7 @@ ghost use Rattle.segment.specs.Constants.{limit};
 ghost use Rattle.state.specs.Flow.{workBytes};
 ghost use Rattle.basics.specs.Put.{putAll};
 ghost use Rattle.state.specs.Numbers.{stageNumber, stageOn, workOn, Fits};
-ghost use Rattle.state.specs.Ranges.{Within, InRange, spelled as spelledBounds};
+ghost use Rattle.state.specs.Ranges.{Within, InRange, spelledBounds};
 ghost use Rattle.number_at_hand.specs.Views.{atHandOf};
 ghost use Rattle.spelling.specs.Together.{taken, together, spelledOn};
 

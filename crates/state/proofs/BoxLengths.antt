@@ -25,8 +25,8 @@ use Rattle.state.specs.declared.LeafSo.{LeafSo}
 use Rattle.state.specs.declared.TrafSo.{TrafSo}
 use Rattle.state.specs.Flow.{Flow, Left}
 use Rattle.state.specs.Rows.{bodyLength, topLengths, openingFaults, gapFaults, leafFaults, innerFaults, trafFaults}
-use Rattle.state.specs.Opening.{openingBox}
-use Rattle.state.specs.Traf.{trafBox}
+use Rattle.state.specs.Opening.{openingKind}
+use Rattle.state.specs.Traf.{trafKind}
 use Rattle.state.specs.Leaf.{moofKind, leafKind}
 use Rattle.state.specs.Stages.{gapKind, innerKind}
 
@@ -124,10 +124,10 @@ lengths-of Misfit Fits k lengths others is higher misfits fits =
     }
 
 -- Up to the top index, in the gap, in a leaf, and as the first box of an index entry: also where the box is not allowed.
-pub lengths-in-opening : (brand : ℕ) (branded : Bool) → Lengths TopMisfit TopFits (openingBox brand branded)
+pub lengths-in-opening : (brand : ℕ) (branded : Bool) → Lengths TopMisfit TopFits (openingKind brand branded)
 unfolding openingFaults
 lengths-in-opening brand branded =
-    lengths-of TopMisfit TopFits (openingBox brand branded) topLengths _ (λ h f. refl) (λ h f. beside _ _ (row _ _ _ (omega arith)) (row _ _ _ (omega arith))) top-misfit top-fits
+    lengths-of TopMisfit TopFits (openingKind brand branded) topLengths _ (λ h f. refl) (λ h f. beside _ _ (row _ _ _ (omega arith)) (row _ _ _ (omega arith))) top-misfit top-fits
 
 pub lengths-in-gap : (end : ℕ) → Lengths TopMisfit TopFits (gapKind end)
 unfolding gapFaults
@@ -164,10 +164,10 @@ traf-fits h fits = at (eqb (h .kind) tfhd) (eqb (h .kind) tfdt) refl refl
     at false true e e' = rw (le-ltb (bodyLength h) 8 (fits .tfdt-long (eqb-true (h .kind) tfdt e')))
     at false false e e' = refl
 
-pub lengths-in-traf : (id end : ℕ) (so : TrafSo) → Lengths TrafMisfit TrafFits (trafBox id end so)
+pub lengths-in-traf : (id end : ℕ) (so : TrafSo) → Lengths TrafMisfit TrafFits (trafKind id end so)
 unfolding trafFaults
 lengths-in-traf id end so =
-    lengths-of TrafMisfit TrafFits (trafBox id end so) trafLengths _ (λ h f. refl) (λ h f. beside _ _ (row _ _ _ (omega arith)) (row _ _ _ (omega arith))) traf-misfit traf-fits
+    lengths-of TrafMisfit TrafFits (trafKind id end so) trafLengths _ (λ h f. refl) (λ h f. beside _ _ (row _ _ _ (omega arith)) (row _ _ _ (omega arith))) traf-misfit traf-fits
 
 -- R5: in a `moof` none of these is known, and no length shows.
 pub lengths-in-moof : (id end : ℕ) (seen : Seen) (h : Header) (f : Flow) → has 6 (faultsOf (moofKind id end seen) h f) ≡ false

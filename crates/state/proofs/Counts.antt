@@ -19,7 +19,7 @@ use Rattle.state.specs.Flow.{Flow, Left}
 use Rattle.state.specs.Stages.{stepStage}
 use Rattle.state.specs.Step.{World, reading, ended, refused, settle, pastLimit, step, stepAll}
 use Rattle.state.specs.Calls.{Out, flowOf, leftOf, stateOf, answerOf, countOf, startOf, feedState, feedOf}
-use Rattle.state.specs.Parts.{held, feedHeld, feedAll, joined}
+use Rattle.state.specs.Cutting.{held, feedHeld, feedAll, joined}
 use Rattle.state.proofs.Cuts.{run-refused, cutting-then}
 use Rattle.state.proofs.Kept.{feed-cases}
 

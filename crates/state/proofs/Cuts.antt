@@ -23,7 +23,7 @@ use Rattle.state.specs.Step.{World, reading, ended, refused, step, stepA
 use Rattle.state.specs.Ranges.{inRange}
 use Rattle.state.specs.Calls.{Out, out, flowOf, leftOf, fed, stateOf, workOf, tableOf, answerOf, feedState, feedOf}
 use Rattle.state.specs.Named.{worldOf}
-use Rattle.state.specs.Parts.{Held, heldAfter, feedHeld, feedAll, joined}
+use Rattle.state.specs.Cutting.{Held, heldAfter, feedHeld, feedAll, joined}
 use Rattle.state.proofs.Frames.{feed-work-length}
 use Rattle.state.proofs.RangeTests.{in-range}
 use Rattle.state.proofs.Ranges.{feed-in-range}
@@ -31,10 +31,10 @@ use Rattle.state.proofs.Ranges.{feed-in-range}
 -- Run.
 
 -- bytes after bytes
-pub run-join : (w : World) (xs ys : List ℕ) → stepAll w (xs ++ ys) ≡ stepAll (stepAll w xs) ys
+pub steps-join : (w : World) (xs ys : List ℕ) → stepAll w (xs ++ ys) ≡ stepAll (stepAll w xs) ys
 unfolding stepAll
-run-join w [] ys = refl
-run-join w (x ∷ xs) ys = run-join (step w x) xs ys
+steps-join w [] ys = refl
+steps-join w (x ∷ xs) ys = steps-join (step w x) xs ys
 
 -- a refusal stays
 pub run-refused : (bs : List ℕ) (n : ℕ) (x : Refusal) (kept : Left) → stepAll (refused n x kept) bs ≡ refused n x kept
@@ -79,9 +79,9 @@ stateNext o piece = feedState (o .state) piece (o .work) (o .table)
 pub state-join : (s : State) (xs ys work table : List ℕ) → feedState s (xs ++ ys) work table ≡ stateNext (feedState s xs work table) ys
 unfolding feedState
 state-join (state.Reading n leaves now last s) xs ys work table =
-    let w : World = reading n s (flowOf leaves now last work table) in ap fed (run-join w xs ys) ∙ sym (fed-again (stepAll w xs) ys)
+    let w : World = reading n s (flowOf leaves now last work table) in ap fed (steps-join w xs ys) ∙ sym (fed-again (stepAll w xs) ys)
 state-join (state.Ended n leaves top) xs ys work table =
-    let w : World = ended n top (leftOf leaves work table) in ap fed (run-join w xs ys) ∙ sym (fed-again (stepAll w xs) ys)
+    let w : World = ended n top (leftOf leaves work table) in ap fed (steps-join w xs ys) ∙ sym (fed-again (stepAll w xs) ys)
 state-join (state.Refused n leaves x) xs ys work table = refl
 state-join (state.Accepted n leaves top) xs ys work table = refl
 

@@ -18,7 +18,7 @@ use Rattle.machine.proofs.Faults.{shows-none}
 use Rattle.state.specs.declared.Span.{Span}
 use Rattle.state.specs.declared.Slot.{Slot}
 use Rattle.state.specs.declared.Top.{Top}
-use Rattle.state.specs.declared.Index.{Index}
+use Rattle.state.specs.declared.IndexRead.{IndexRead}
 use Rattle.state.specs.declared.Levels.{Levels}
 use Rattle.state.specs.declared.Draft.{Draft}
 use Rattle.state.specs.declared.IndexPart.the-variants as part
@@ -60,11 +60,11 @@ stageOf what n (done top f) = n
 stageOf what n (bad x kept) = n
 
 -- What a state keeps of the top index: its reference ID, its timescale, its start and the sum of its durations.
-pub top-kept : (x : Index) → topOf x ≡ record { id = x .id; scale = x .scale; start = x .time; durations = x .durations }
+pub top-kept : (x : IndexRead) → topOf x ≡ record { id = x .id; scale = x .scale; start = x .time; durations = x .durations }
 top-kept x = refl
 
 -- Rule 7: the first leaf starts at the top index's earliest presentation time.
-pub time-line-starts : (x : Index) (f : Flow) (n : ℕ) → nowOf (indexEnds x f n) ≡ x .time
+pub time-line-starts : (x : IndexRead) (f : Flow) (n : ℕ) → nowOf (indexEnds x f n) ≡ x .time
 unfolding indexEnds stillOpen stillOne onward
 time-line-starts x f n =
     pick-if (eqb (x .offset) 0) nowOf _ _ (x .time)
@@ -72,7 +72,7 @@ time-line-starts x f n =
     (λ e. refl)
 
 -- Rule 2: the material starts at the end of the top index plus its first offset, and is as long as the sum of its entry sizes.
-pub material-starts : (x : Index) (f : Flow) (n : ℕ) → stageOf opensAt n (indexEnds x f n) ≡ n + x .offset
+pub material-starts : (x : IndexRead) (f : Flow) (n : ℕ) → stageOf opensAt n (indexEnds x f n) ≡ n + x .offset
 unfolding indexEnds stillOpen stillOne onward
 material-starts x f n =
     pick-if (eqb (x .offset) 0) (stageOf opensAt n) _ _ (n + x .offset)
@@ -82,7 +82,7 @@ material-starts x f n =
     pick-if (eqb 0 (x .count)) (λ (o : Option Levels). stageOf opensAt n (onward (topOf x) o (withNow f (x .time)))) none _ (n + x .offset) (λ c. at-once) (λ c. at-once))
     (λ e. refl)
 
-pub material-ends : (x : Index) (f : Flow) (n : ℕ) → (0 ≡ x .count → ⊥) → stageOf endsAt n (indexEnds x f n) ≡ n + x .offset + x .sizes
+pub material-ends : (x : IndexRead) (f : Flow) (n : ℕ) → (0 ≡ x .count → ⊥) → stageOf endsAt n (indexEnds x f n) ≡ n + x .offset + x .sizes
 unfolding indexEnds stillOpen stillOne onward inmost
 material-ends x f n some-entry =
     pick-if (eqb (x .offset) 0) (stageOf endsAt n) _ _ (n + x .offset + x .sizes)
@@ -101,7 +101,7 @@ leaf-record e now n first =
     rw (size, duration)
 
 -- Rule 4: an inner index that shows no fault at its end has exactly the sums that its entry says.
-pub inner-sums : (top : Top) (slot : Slot) (depth : ℕ) (span : Span) (x : Index) (now n : ℕ) → sumFaults (under top slot depth) span x now n ≡ [] →
+pub inner-sums : (top : Top) (slot : Slot) (depth : ℕ) (span : Span) (x : IndexRead) (now n : ℕ) → sumFaults (under top slot depth) span x now n ≡ [] →
     (n + x .sizes ≡ slot .end) × (now + x .durations ≡ slot .until)
 unfolding sumFaults
 inner-sums top slot depth span x now n e =
@@ -111,7 +111,7 @@ inner-sums top slot depth span x now n e =
     (eqb-true _ _ whole, eqb-true _ _ through)
 
 -- Row 14: a top index that shows no fault at its end has exact sums within both limits.
-pub top-sums : (span : Span) (x : Index) (now n : ℕ) → sumFaults topmost span x now n ≡ [] →
+pub top-sums : (span : Span) (x : IndexRead) (now n : ℕ) → sumFaults topmost span x now n ≡ [] →
     (n + x .offset + x .sizes ≤ limit) × (x .time + x .durations < timeLimit)
 unfolding sumFaults
 top-sums span x now n e =

@@ -28,9 +28,9 @@ use Rattle.state.specs.declared.Seen.{Seen}
 use Rattle.state.specs.declared.Slot.{Slot}
 use Rattle.state.specs.declared.Draft.{Draft}
 use Rattle.state.specs.declared.Sums.{Sums}
-use Rattle.state.specs.declared.Index.{Index}
+use Rattle.state.specs.declared.IndexRead.{IndexRead}
 use Rattle.state.specs.declared.Top.{Top}
-use Rattle.state.specs.declared.Track.{Track}
+use Rattle.state.specs.declared.TrafPhase.{TrafPhase}
 use Rattle.state.specs.declared.TrafPart.{TrafPart}
 use Rattle.state.specs.declared.TrafPart.the-variants as trafPart
 use Rattle.state.specs.declared.TrafBody.{TrafBody}
@@ -75,10 +75,10 @@ use Rattle.state.specs.Rows.{is}
 use Rattle.state.specs.Sidx as indexes
 use Rattle.state.specs.Sidx.{Place, topmost, under, sumFaults, indexOf, closeSidx, fieldEnds, entryEnds, keepByte, stepSidx}
 use Rattle.state.specs.Traf as traffic
-use Rattle.state.specs.Traf.{nothing, trafEnds, beginTraf, stepTrafBody, trafBox, trafBoxes, wrapTraf, trafNext, trafSo0, stepTraf, beginTrafBoxes}
+use Rattle.state.specs.Traf.{nothing, trafEnds, beginTraf, stepTrafBody, trafKind, trafBoxes, wrapTraf, trafNext, trafSo0, stepTraf, beginTrafBoxes}
 use Rattle.state.specs.Leaf.{skipped, seeing, beginMoof, stepMoofBody, moofKind, moofNext, moofBoxes, wrapMoof, stepMoof, beginMoofBoxes, beginLeaf, stepLeafBody, leafKind, leafBoxes, wrapLeaf}
 use Rattle.state.specs.Leaf.{stepLeaf, leafSo0}
-use Rattle.state.specs.Opening.{passed, indexed, spanOf, unlisted, brandsFrom, stypEnds, beginOpening, stepOpeningBody, openingBox, opening, wrapOpening, stepOpening}
+use Rattle.state.specs.Opening.{passed, indexed, spanOf, unlisted, brandsFrom, stypEnds, beginOpening, stepOpeningBody, openingKind, opening, wrapOpening, stepOpening}
 use Rattle.state.specs.Levels.{entryAt, entryPlace, inmost, depth, tookEntry, push, stillOpen, entryFaults, slotOf}
 use Rattle.state.specs.declared.StoredEntry.{StoredEntry}
 use Rattle.state.specs.Stages.{gapKind, gapBoxes, wrapGap, stepGap, onward, follow, topOf, topLevel, indexEnds, InnerBody, innerKind, innerLevel, stepInner, leafRecord, liftLeaf, stepInLeaf}
@@ -95,7 +95,7 @@ skip-left : {S R : Type 0} (stop : ℕ) (f : Flow) (n : ℕ) (r : R) (s : S) →
 unfolding leftIn
 skip-left stop f n r s = pick-left left (leb stop n) (done r f) (go s f) (left f) refl refl
 
-traf-ends-left : (id : ℕ) (t : Track) (p : TrafPart) (v : ℕ) (f : Flow) (n : ℕ) → leftIn left (trafEnds id t p v f n) ≡ left f
+traf-ends-left : (id : ℕ) (t : TrafPhase) (p : TrafPart) (v : ℕ) (f : Flow) (n : ℕ) → leftIn left (trafEnds id t p v f n) ≡ left f
 unfolding trafEnds leftIn
 traf-ends-left id t (trafPart.HeadFlags end) v f n = refl
 traf-ends-left id t (trafPart.TrackId end) v f n = skip-left end f n (traffic.headed (eqb v id)) (trafs.Rest end (eqb v id))
@@ -111,7 +111,7 @@ traf-begin-left h f n =
     pick-left left (is h tfhd) _ _ (left f) refl
     (pick-left left (is h tfdt) _ _ (left f) refl (skip-left (boxEnd h) f n nothing (trafs.Skip (boxEnd h))))
 
-traf-body-left : (id : ℕ) (t : Track) (s : TrafBody) (f : Flow) (n b : ℕ) → leftIn left (stepTrafBody id t s f n b) ≡ left f
+traf-body-left : (id : ℕ) (t : TrafPhase) (s : TrafBody) (f : Flow) (n b : ℕ) → leftIn left (stepTrafBody id t s f n b) ≡ left f
 unfolding stepTrafBody leftIn
 traf-body-left id t (trafs.Skip stop) f n b = skip-left stop f (suc n) nothing (trafs.Skip stop)
 traf-body-left id t (trafs.Rest stop r) f n b = skip-left stop f (suc n) (traffic.headed r) (trafs.Rest stop r)
@@ -121,9 +121,9 @@ traf-body-left id t (trafs.Field p (suc m) acc) f n b = refl
 traf-left : (id : ℕ) (span : Span) (s : TrafBoxes) (f : Flow) (n b : ℕ) → leftIn left (stepTraf id span s f n b) ≡ left f
 unfolding stepTraf
 traf-left id span (trafBoxed.Head so h) f n b =
-    boxes-left (trafBoxes id span) wrapTraf so (inHead h) f n b ∙ header-left (trafBox id (span .end) so) traf-begin-left h f n b
+    boxes-left (trafBoxes id span) wrapTraf so (inHead h) f n b ∙ header-left (trafKind id (span .end) so) traf-begin-left h f n b
 traf-left id span (trafBoxed.Body so s) f n b =
-    boxes-left (trafBoxes id span) wrapTraf so (inBody s) f n b ∙ body-left (trafBox id (span .end) so) s f n b ∙ traf-body-left id (so .track) s f n b
+    boxes-left (trafBoxes id span) wrapTraf so (inBody s) f n b ∙ body-left (trafKind id (span .end) so) s f n b ∙ traf-body-left id (so .track) s f n b
 
 moof-begin-left : (id : ℕ) (seen : Seen) (h : Header) (f : Flow) (n : ℕ) → leftIn left (beginMoof id seen h f n) ≡ left f
 unfolding beginMoof
@@ -169,7 +169,7 @@ leaf-left id slot (leafBoxed.Body so s) f n b =
 abbrev storing : Flow → Option ℕ → ℕ → Left
 storing f place b = record { leaves = f .leaves; work = storedAt (f .work) place b; table = f .table }
 
-close-left : (p : Place) (span : Span) (x : Index) (f : Flow) (n : ℕ) → leftIn left (closeSidx p span x f n) ≡ left f
+close-left : (p : Place) (span : Span) (x : IndexRead) (f : Flow) (n : ℕ) → leftIn left (closeSidx p span x f n) ≡ left f
 unfolding closeSidx leftIn
 close-left p span x f n = unless-left left (sumFaults p span x (f .now) n) f (done x f) refl
 
@@ -225,9 +225,9 @@ opening-body-left brand (openings.Index span s) f n b = pass-left left (openings
 opening-left : (brand : ℕ) (s : OpeningBoxes) (f : Flow) (n b : ℕ) → leftIn left (stepOpening brand s f n b) ≡ storing f (openingByte s) b
 unfolding stepOpening openingByte storedAt
 opening-left brand (openingBoxed.Head branded h) f n b =
-    boxes-left (opening brand) wrapOpening branded (inHead h) f n b ∙ header-left (openingBox brand branded) opening-begin-left h f n b
+    boxes-left (opening brand) wrapOpening branded (inHead h) f n b ∙ header-left (openingKind brand branded) opening-begin-left h f n b
 opening-left brand (openingBoxed.Body branded s) f n b =
-    boxes-left (opening brand) wrapOpening branded (inBody s) f n b ∙ body-left (openingBox brand branded) s f n b ∙ opening-body-left brand s f n b
+    boxes-left (opening brand) wrapOpening branded (inBody s) f n b ∙ body-left (openingKind brand branded) s f n b ∙ opening-body-left brand s f n b
 
 -- In the gap.
 gap-left : (end : ℕ) (s : GapBoxes) (f : Flow) (n b : ℕ) → leftIn left (stepGap end s f n b) ≡ left f
@@ -350,7 +350,7 @@ unfolding unless leftIn
 frames-unless [] f b r h = h
 frames-unless (x ∷ xs) f b r h = frames-none f b (bad (lowest x xs) (left f)) refl
 
-index-ends-left : (x : Index) (f : Flow) (n : ℕ) → leftIn left (indexEnds x f n) ≡ left f
+index-ends-left : (x : IndexRead) (f : Flow) (n : ℕ) → leftIn left (indexEnds x f n) ≡ left f
 unfolding indexEnds leftIn
 index-ends-left x f n = pick-left left (eqb (x .offset) 0) _ _ (left f) (onward-left (topOf x) (stillOpen (levels.One (topLevel x n))) (withNow f (x .time))) refl
 

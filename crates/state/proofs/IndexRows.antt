@@ -13,7 +13,7 @@ use Rattle.machine.specs.Run.{Sub, go, done, bad}
 use Rattle.state.specs.declared.Span.{Span}
 use Rattle.state.specs.declared.Draft.{Draft}
 use Rattle.state.specs.declared.Sums.{Sums}
-use Rattle.state.specs.declared.Index.{Index}
+use Rattle.state.specs.declared.IndexRead.{IndexRead}
 use Rattle.state.specs.declared.Top.{Top}
 use Rattle.state.specs.declared.Slot.{Slot}
 use Rattle.state.specs.declared.IndexPart.{IndexPart}
@@ -28,7 +28,7 @@ use Rattle.state.specs.Sidx.{wideMore, closeSidx, fieldEnds, plusSize, e
 use Rattle.state.proofs.Edges.{length-before-count}
 
 abbrev Ends : Type 0
-Ends = Sub Sidx Index Flow Left
+Ends = Sub Sidx IndexRead Flow Left
 
 -- what the draft of an index is with its version, its ID, its timescale, its time, its first offset
 abbrev versioned : ℕ → Draft
@@ -153,7 +153,7 @@ module _ (span : Span) (d : Draft) (f : Flow) (n : ℕ) where
 
   -- Rows 14 and 12, at the index's last byte, the n-th of the segment: the top index gives 14 where its material ends past the limit or its
   -- start plus durations is 2 to the power 64 or more; an inner one gives 12 where its sums are not its entry's; else the index is read.
-  pub sums-end : (top : Top) (slot : Slot) (depth : ℕ) (x : Index) →
+  pub sums-end : (top : Top) (slot : Slot) (depth : ℕ) (x : IndexRead) →
       ((268435456 < n + x .offset + x .sizes) ⊎ (18446744073709551616 ≤ x .time + x .durations) → closeSidx topmost span x f n ≡ gives 14)
       × (n + x .offset + x .sizes ≤ 268435456 → x .time + x .durations < 18446744073709551616 → closeSidx topmost span x f n ≡ done x f)
       × ((n + x .sizes ≢ slot .end) ⊎ (f .now + x .durations ≢ slot .until) → closeSidx (under top slot depth) span x f n ≡ gives 12)

@@ -144,9 +144,9 @@ passes bytes i k n s f there low before =
     ∙ ap (λ (xs : List ℕ). stepAll (reading (n + k) s f) xs) (drop-drop k i bytes)
 
 -- the bytes that pass at once, passed
-pub run-passing : (bytes : List ℕ) (i n : ℕ) (s : Stage) (f : Flow) → n ≤ limit → i ≤ length bytes →
+pub steps-passing : (bytes : List ℕ) (i n : ℕ) (s : Stage) (f : Flow) → n ≤ limit → i ≤ length bytes →
     let k : ℕ = passing s n (length bytes - i) in stepAll (reading n s f) (drop i bytes) ≡ stepAll (reading (n + k) s f) (drop (i + k) bytes)
-run-passing bytes i n s f low there = at (passing s n (length bytes - i)) refl
+steps-passing bytes i n s f low there = at (passing s n (length bytes - i)) refl
   where
     at : (k : ℕ) → k ≡ passing s n (length bytes - i) → stepAll (reading n s f) (drop i bytes) ≡ stepAll (reading (n + k) s f) (drop (i + k) bytes)
     at zero e = let a : n + 0 ≡ n = omega arith in let b : i + 0 ≡ i = omega arith in rw (a, b) refl

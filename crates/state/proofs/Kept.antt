@@ -22,7 +22,7 @@ use Rattle.state.specs.declared.FinishAnswer.the-variants as finishes
 use Rattle.state.specs.Step.{World, reading, ended, refused, stepAll}
 use Rattle.state.specs.Ranges.{inRange, InRange, bounds}
 use Rattle.state.specs.Calls.{Out, out, flowOf, leftOf, stateOf, answerOf, feedState, feedOf, Finished, finished, finishState, finishOf}
-use Rattle.state.specs.Parts.{held, feedHeld, feedAll}
+use Rattle.state.specs.Cutting.{held, feedHeld, feedAll}
 use Rattle.state.proofs.Cuts.{tested, feed-short, feed-outside, feed-inside}
 use Rattle.state.proofs.RangeTests.{in-range}
 use Rattle.state.proofs.Ranges.{feed-in-range}

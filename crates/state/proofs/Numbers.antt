@@ -14,7 +14,7 @@ use Rattle.machine.specs.Heads.{stepHead}
 use Rattle.machine.specs.Lists.{BoxPhase, inHead, stepBox, Boxes, stepBoxes}
 use Rattle.machine.specs.declared.Head.{Head}
 use Rattle.machine.specs.declared.Head.the-variants as at
-use Rattle.state.specs.declared.Track.{Track}
+use Rattle.state.specs.declared.TrafPhase.{TrafPhase}
 use Rattle.state.specs.declared.Span.{Span}
 use Rattle.state.specs.declared.Slot.{Slot}
 use Rattle.state.specs.declared.Sidx.{Sidx}
@@ -98,7 +98,7 @@ module _ {A B R Q S : Type 0} (l : Boxes A B R Q Flow Left) (wrap : A → BoxPha
   unfolding stepBox lift
   head-moves a h h' f g n b e = rw e
 
-traf-body-spells : (id : ℕ) (t : Track) (s : TrafBody) → Spells (stepTrafBody id t) (trafBodyNumber s) s
+traf-body-spells : (id : ℕ) (t : TrafPhase) (s : TrafBody) → Spells (stepTrafBody id t) (trafBodyNumber s) s
 unfolding trafBodyNumber stepTrafBody keepIn
 traf-body-spells id t (trafs.Skip stop) = absent-spells _ (trafs.Skip stop)
 traf-body-spells id t (trafs.Rest stop r) = absent-spells _ (trafs.Rest stop r)

@@ -23,8 +23,8 @@ use Rattle.state.specs.declared.Levels.{Levels}
 use Rattle.state.specs.declared.Stage.{Stage}
 use Rattle.state.specs.declared.Stage.the-variants as stage
 use Rattle.state.specs.declared.Top.{Top}
-use Rattle.state.specs.declared.Track.{Track}
-use Rattle.state.specs.declared.Track.the-variants as track
+use Rattle.state.specs.declared.TrafPhase.{TrafPhase}
+use Rattle.state.specs.declared.TrafPhase.the-variants as track
 use Rattle.state.specs.declared.StypPart.the-variants as styps
 use Rattle.state.specs.declared.OpeningBody.the-variants as openings
 use Rattle.state.specs.declared.OpeningBoxes.the-variants as boxes
@@ -122,7 +122,7 @@ unfolding trafFaults fresh headedTrack
 tfdt-in-traf h r is-tfdt = (simp (has-both, has-shows, is-tfdt, or-false), simp (has-both, has-shows, is-tfdt, or-false), simp (has-both, has-shows, is-tfdt, or-false))
 
 -- Row 17: a `tfad` shows 17, and no other box does.
-pub tfad-in-traf : (t : Track) (h : Header) → (h .kind ≡ tfad → has 17 (trafFaults t h) ≡ true) × (h .kind ≢ tfad → has 17 (trafFaults t h) ≡ false)
+pub tfad-in-traf : (t : TrafPhase) (h : Header) → (h .kind ≡ tfad → has 17 (trafFaults t h) ≡ true) × (h .kind ≢ tfad → has 17 (trafFaults t h) ≡ false)
 unfolding trafFaults
 tfad-in-traf t h = (λ same. simp (has-both, has-shows, same), λ other. simp (has-both, has-shows, ne-eqb (h .kind) tfad other))
 

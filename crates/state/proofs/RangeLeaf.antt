@@ -19,8 +19,8 @@ use Rattle.machine.proofs.Faults.{shows-none, none-first}
 use Rattle.state.specs.declared.Span.{Span}
 use Rattle.state.specs.declared.Seen.{Seen}
 use Rattle.state.specs.declared.Slot.{Slot}
-use Rattle.state.specs.declared.Track.{Track}
-use Rattle.state.specs.declared.Track.the-variants as track
+use Rattle.state.specs.declared.TrafPhase.{TrafPhase}
+use Rattle.state.specs.declared.TrafPhase.the-variants as track
 use Rattle.state.specs.declared.TrafSo.{TrafSo}
 use Rattle.state.specs.declared.TrafPart.{TrafPart}
 use Rattle.state.specs.declared.TrafPart.the-variants as part
@@ -42,7 +42,7 @@ use Rattle.table.specs.Table.{room, mostRecords, recordNumbers}
 use Rattle.state.specs.Rows.{is, topLengths, trafFaults, leafFaults, noRoom}
 use Rattle.state.specs.Opening.{spanOf}
 use Rattle.state.specs.Traf.{Gave, nothing, headed, timed, tfdtVersionFaults, fallFaults, skipTraf, restFrom, trafEnds, beginTraf, stepTrafBody, trafNow, lacking, trafNext, trafBoxes}
-use Rattle.state.specs.Traf.{trafBox as trafKind, wrapTraf, stepTraf, trafSo0, beginTrafBoxes}
+use Rattle.state.specs.Traf.{trafKind as trafKind, wrapTraf, stepTraf, trafSo0, beginTrafBoxes}
 use Rattle.state.specs.Leaf.{seeing, seenNow, skipMoof, liftTraf, beginMoof, stepMoofBody, moofKind, moofNext, moofBoxes, wrapMoof, stepMoof, beginMoofBoxes, skipLeaf, liftMoof, beginLeaf}
 use Rattle.state.specs.Leaf.{stepLeafBody, leafKind, leafNow, leafLacks, leafNext, leafBoxes, wrapLeaf, stepLeaf}
 use Rattle.state.specs.Ranges.{Within, trafMost, trafBodyBounds, trafBounds, moofBodyBounds, moofBounds, leafBodyBounds, leafBounds}
@@ -54,7 +54,7 @@ pub top-lengths : (h : Header) → Each Numbered (topLengths h)
 unfolding topLengths
 top-lengths h = both _ _ (shown _ _ _ (omega arith)) (shown _ _ _ (omega arith))
 
-traf-faults : (t : Track) (h : Header) → Each Numbered (trafFaults t h)
+traf-faults : (t : TrafPhase) (h : Header) → Each Numbered (trafFaults t h)
 unfolding trafFaults
 traf-faults t h = both _ _ (shown _ _ _ (omega arith)) (both _ _ (shown _ _ _ (omega arith)) (shown _ _ _ (omega arith)))
 
@@ -83,7 +83,7 @@ module _ (t : ℕ) where
   unfolding trafBodyBounds
   skip-traf stop f n k = pick-kept t trafBodyBounds Fine (leb stop n) _ _ k (tt, k)
 
-  traf-ends : (id : ℕ) (tr : Track) (p : TrafPart) (v : ℕ) (f : Flow) (n : ℕ) → Flows t f → KeptIn t trafBodyBounds Fine (trafEnds id tr p v f n)
+  traf-ends : (id : ℕ) (tr : TrafPhase) (p : TrafPart) (v : ℕ) (f : Flow) (n : ℕ) → Flows t f → KeptIn t trafBodyBounds Fine (trafEnds id tr p v f n)
   unfolding trafEnds trafBodyBounds trafMost tfdtVersionFaults
   traf-ends id tr (part.HeadFlags end) v f n k = (spelled-first 3 3 (omega arith), k)
   traf-ends id tr (part.TrackId end) v f n k = rest-from end (eqb v id) f n k
@@ -100,7 +100,8 @@ module _ (t : ℕ) where
       pick-kept t trafBodyBounds Fine (is h tfhd) _ _ (spelled-first 3 3 (omega arith), k)
       (pick-kept t trafBodyBounds Fine (is h tfdt) _ _ (spelled-first 0 0 (omega arith), k) (skip-traf (boxEnd h) f n k))
 
-  step-traf-body : (id : ℕ) (tr : Track) (s : TrafBody) (f : Flow) (n b : ℕ) → n ≤ limit → b < 256 → Within (trafBodyBounds s) → Flows t f → KeptIn t trafBodyBounds Fine (stepTrafBody id tr s f n b)
+  step-traf-body : (id : ℕ) (tr : TrafPhase) (s : TrafBody) (f : Flow) (n b : ℕ) → n ≤ limit → b < 256 → Within (trafBodyBounds s) → Flows t f →
+      KeptIn t trafBodyBounds Fine (stepTrafBody id tr s f n b)
   unfolding stepTrafBody trafBodyBounds
   step-traf-body id tr (trafs.Skip stop) f n b hn hb w k = skip-traf stop f (suc n) k
   step-traf-body id tr (trafs.Rest stop r) f n b hn hb w k = rest-from stop r f (suc n) k
@@ -108,7 +109,7 @@ module _ (t : ℕ) where
   step-traf-body id tr (trafs.Field p (suc m) acc) f n b hn hb w k = (spelled-next (trafMost p) m acc b hb w, k)
 
   -- A `traf`: its boxes.
-  lackings : (pos : ℕ) (tr : Track) → Each Numbered (lacking pos tr)
+  lackings : (pos : ℕ) (tr : TrafPhase) → Each Numbered (lacking pos tr)
   unfolding lacking
   lackings pos track.Fresh = shown true 16 pos (omega arith)
   lackings pos (track.Headed r) = shown true 16 pos (omega arith)

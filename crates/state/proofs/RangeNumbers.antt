@@ -36,14 +36,14 @@ use Rattle.state.specs.declared.Stage.{Stage}
 use Rattle.state.specs.declared.Stage.the-variants as stage
 use Rattle.state.specs.Levels.{depth}
 use Rattle.state.specs.Sidx.{Place, topmost, under, partOf, wideMore, wordPlace}
-use Rattle.state.specs.Ranges.{Within, spelled, headBounds, trafMost, trafBodyBounds, trafBounds, moofBodyBounds, moofBounds, leafBodyBounds, leafBounds, indexMost, sidxBounds}
+use Rattle.state.specs.Ranges.{Within, spelledBounds, headBounds, trafMost, trafBodyBounds, trafBounds, moofBodyBounds, moofBounds, leafBodyBounds, leafBounds, indexMost, sidxBounds}
 use Rattle.state.specs.Ranges.{openingBodyBounds, openingBounds, gapBounds, topBounds, levelsBounds, slotBounds, innerBounds, stageBounds}
 use Rattle.state.specs.Numbers.{headNumber, sidxNumber, trafBodyNumber, trafNumber, moofBodyNumber, moofNumber, leafBodyNumber, leafNumber, openingBodyNumber, openingNumber, gapNumber}
 use Rattle.state.specs.Numbers.{innerNumber, stageNumber, Short, Fits}
 use Rattle.state.proofs.RangeTests.{spelled-first, spelled-within, four-within}
 
 -- a number of fewer bytes has at most eight
-widen : (most more acc : ℕ) → most ≤ 7 → Within (spelled most more acc) → Within (spelled 7 more acc)
+widen : (most more acc : ℕ) → most ≤ 7 → Within (spelledBounds most more acc) → Within (spelledBounds 7 more acc)
 widen most more acc h w =
     spelled-within most more 7 more acc (omega (arith, w .0, h)) (omega arith) w
 
@@ -76,7 +76,7 @@ word-most entry.Size = omega arith
 word-most entry.Duration = omega arith
 word-most entry.Sap = omega arith
 
-absent-fits : Within (spelled 7 0 0)
+absent-fits : Within (spelledBounds 7 0 0)
 absent-fits = spelled-first 7 0 (omega arith)
 
 head-fits : (h : Head) → Within (headBounds h) → Fits (headNumber h)

@@ -23,7 +23,7 @@ use Rattle.state.specs.declared.GapBoxes.the-variants as gaps
 use Rattle.state.specs.Flow.{Flow, left}
 use Rattle.state.specs.Rows.{is, openingFaults, gapFaults}
 use Rattle.state.specs.Sidx.{topmost, stepSidx}
-use Rattle.state.specs.Opening.{OpeningGave, passed, indexed, unlisted, brandsFrom, stypEnds, skipOpening, beginOpening, stepOpeningBody, openingBox}
+use Rattle.state.specs.Opening.{OpeningGave, passed, indexed, unlisted, brandsFrom, stypEnds, skipOpening, beginOpening, stepOpeningBody, openingKind}
 use Rattle.state.specs.Opening.{closeOpening, opening, wrapOpening, stepOpening}
 use Rattle.state.specs.Stages.{skipGap, gapKind, gapNext, gapBoxes, wrapGap, stepGap}
 use Rattle.state.specs.Ranges.{Bound, Within, openingBodyBounds, openingBounds, gapBounds, sidxBounds}
@@ -90,7 +90,7 @@ module _ (t : ℕ) where
   opening-box brand branded s f n b hn hb w k =
       boxes-kept t (opening brand) wrapOpening openingBounds (Read t topmost) (λ g h. h) (λ a h y. y) openingBodyBounds Opens (λ a x y. y) close-opening
       (λ a kept m. each-none Numbered) branded s f n b
-      (box-kept t (openingBox brand branded) openingBodyBounds Opens (λ g h. h) (λ h g. opening-faults branded h) (λ h g m e z. begin-opening h g m z) (step-opening-body brand) s f n b hn hb w k)
+      (box-kept t (openingKind brand branded) openingBodyBounds Opens (λ g h. h) (λ h g. opening-faults branded h) (λ h g m e z. begin-opening h g m z) (step-opening-body brand) s f n b hn hb w k)
 
   pub step-opening : (brand : ℕ) (s : OpeningBoxes) (f : Flow) (n b : ℕ) → n ≤ limit → b < 256 → Within (openingBounds s) → Flows t f →
       KeptIn t openingBounds (Read t topmost) (stepOpening brand s f n b)

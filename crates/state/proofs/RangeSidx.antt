@@ -8,14 +8,14 @@ use lib.Dec.{eqb, ltb, leb}
 use borrow.Author.Tests.{ltb-false, leb-false, eqb-false}
 use Rattle.basics.proofs.Picks.{pick-holds}
 use Rattle.basics.proofs.Tests.{or-neither}
-use Rattle.segment.specs.Constants.{limit, timeLimit, wordLimit, entryBytes, mostEntries}
+use Rattle.segment.specs.Constants.{limit, timeLimit, entryBytes, mostEntries}
 use Rattle.machine.specs.Faults.{shows}
 use Rattle.machine.proofs.Kept.{Each, each-none}
 use Rattle.machine.proofs.Faults.{shows-none, none-first, none-second}
 use Rattle.state.specs.declared.Span.{Span}
 use Rattle.state.specs.declared.Draft.{Draft}
 use Rattle.state.specs.declared.Sums.{Sums}
-use Rattle.state.specs.declared.Index.{Index}
+use Rattle.state.specs.declared.IndexRead.{IndexRead}
 use Rattle.state.specs.declared.IndexPart.{IndexPart}
 use Rattle.state.specs.declared.IndexPart.the-variants as part
 use Rattle.state.specs.declared.EntryPart.{EntryPart}
@@ -25,16 +25,16 @@ use Rattle.state.specs.declared.Sidx.the-variants as sidx
 use Rattle.state.specs.Flow.{Flow, left}
 use Rattle.state.specs.Sidx.{Place, topmost, under, sidxStart, sidxVersionFaults, idFaults, scaleFaults, timeFaults, offsetFaults, countFaults, sumFaults, wideMore, indexOf, closeSidx}
 use Rattle.state.specs.Sidx.{fieldEnds, entrySizeFaults, entryEnds, keepByte, stepSidx}
-use Rattle.state.specs.Ranges.{Bound, atMost, below, Within, spelled, indexMost, scaleLeast, draftBounds, sizesRead, durationsRead, sumsBounds, sidxBounds}
+use Rattle.state.specs.Ranges.{Bound, atMost, below, Within, spelledBounds, indexMost, scaleLeast, draftBounds, sizesRead, durationsRead, sumsBounds, sidxBounds, wordLimit}
 use Rattle.state.proofs.RangeTests.{within-append, within-first, spelled-first, spelled-next, spelled-last}
 use Rattle.state.proofs.RangeKept.{Numbered, Flows, KeptIn, shown, both, unless-kept}
 
 -- what is in range of an index that was read whole, wherever it stands
-abbrev pub indexBounds : Index → List Bound
+abbrev pub indexBounds : IndexRead → List Bound
 indexBounds x = below (x .id) wordLimit ∷ atMost 1 (x .scale) ∷ below (x .scale) wordLimit ∷ below 0 (x .count) ∷ atMost (x .count) mostEntries ∷ []
 
 -- on top: first offset and material are within the limit, and start plus durations is a time
-unfoldable pub Ends : Place → Index → Type 0
+unfoldable pub Ends : Place → IndexRead → Type 0
 Ends topmost x = (x .offset + x .sizes ≤ limit) × (x .time + x .durations < timeLimit)
 Ends (under top slot depth) x = Unit {0}
 
@@ -71,7 +71,7 @@ count-faults : (span : Span) (v n : ℕ) → Each Numbered (countFaults span v n
 unfolding countFaults
 count-faults span v n = both _ _ (shown _ _ _ (omega arith)) (shown _ _ _ (omega arith))
 
-sum-faults : (p : Place) (span : Span) (x : Index) (now n : ℕ) → Each Numbered (sumFaults p span x now n)
+sum-faults : (p : Place) (span : Span) (x : IndexRead) (now n : ℕ) → Each Numbered (sumFaults p span x now n)
 unfolding sumFaults
 sum-faults topmost span x now n = shown _ _ _ (omega arith)
 sum-faults (under top slot depth) span x now n = shown _ _ _ (omega arith)
@@ -89,7 +89,7 @@ count-some span v n e =
     let h = or-neither (eqb v 0) (ltb mostEntries v) (shows-none _ _ _ (none-second (shows (not (eqb (span .end) (n + entryBytes * v))) 6 (span .pos)) _ e)) in
     (omega (arith, eqb-false v 0 (h .0)), ltb-false _ _ (h .1))
 
-sums-end : (p : Place) (span : Span) (x : Index) (now n : ℕ) → sumFaults p span x now n ≡ [] → Ends p x
+sums-end : (p : Place) (span : Span) (x : IndexRead) (now n : ℕ) → sumFaults p span x now n ≡ [] → Ends p x
 unfolding sumFaults Ends
 sums-end topmost span x now n e =
     let h = or-neither (ltb limit (n + x .offset + x .sizes)) (leb timeLimit (x .time + x .durations)) (shows-none _ _ _ e) in
@@ -97,10 +97,10 @@ sums-end topmost span x now n e =
 sums-end (under top slot depth) span x now n e = tt
 
 module _ (t : ℕ) (p : Place) where
-  abbrev pub Read : Index → Flow → Type 0
+  abbrev pub Read : IndexRead → Flow → Type 0
   Read x f = Within (indexBounds x) × Ends p x × Flows t f
 
-  close-sidx : (span : Span) (x : Index) (f : Flow) (n : ℕ) → Within (indexBounds x) → Flows t f → KeptIn t sidxBounds Read (closeSidx p span x f n)
+  close-sidx : (span : Span) (x : IndexRead) (f : Flow) (n : ℕ) → Within (indexBounds x) → Flows t f → KeptIn t sidxBounds Read (closeSidx p span x f n)
   unfolding closeSidx
   close-sidx span x f n w k =
       unless-kept t sidxBounds Read (sumFaults p span x (f .now) n) (left f) _ (sum-faults p span x (f .now) n) (k .0) (λ e. (w, sums-end p span x (f .now) n e, k))
@@ -140,14 +140,15 @@ module _ (t : ℕ) (p : Place) where
   pub step-sidx : (span : Span) (s : Sidx) (f : Flow) (n b : ℕ) → b < 256 → Within (sidxBounds s) → Flows t f → KeptIn t sidxBounds Read (stepSidx p span s f n b)
   unfolding stepSidx sidxBounds
   step-sidx span (sidx.Field i d zero acc) f n b hb w k =
-      field-ends span i d (acc * 256 + b) f (suc n) (within-first (draftBounds (scaleLeast i) d) (spelled (indexMost i (d .wide)) zero acc) w)
+      field-ends span i d (acc * 256 + b) f (suc n) (within-first (draftBounds (scaleLeast i) d) (spelledBounds (indexMost i (d .wide)) zero acc) w)
       (spelled-last (indexMost i (d .wide)) acc b hb (w .1 .1 .1)) k
   step-sidx span (sidx.Field i d (suc m) acc) f n b hb w k = ((w .0, (w .1 .0, (w .1 .1 .0, spelled-next (indexMost i (d .wide)) m acc b hb (w .1 .1 .1)))), k)
   step-sidx span (sidx.Entry e d s zero acc) f n b hb w k =
-      entry-ends span e d s (acc * 256 + b) (keepByte p e s f 0 b) (suc n) (within-first (draftBounds 1 d) (sumsBounds e s ++ spelled 3 zero acc) w)
-      (within-first (sumsBounds e s) (spelled 3 zero acc) (w .1 .1 .1)) (spelled-last 3 acc b hb (w .1 .1 .1 .1 .1 .1 .1)) k
+      entry-ends span e d s (acc * 256 + b) (keepByte p e s f 0 b) (suc n) (within-first (draftBounds 1 d) (sumsBounds e s ++ spelledBounds 3 zero acc) w)
+      (within-first (sumsBounds e s) (spelledBounds 3 zero acc) (w .1 .1 .1)) (spelled-last 3 acc b hb (w .1 .1 .1 .1 .1 .1 .1)) k
   step-sidx span (sidx.Entry e d s (suc m) acc) f n b hb w k = (
-    within-append (draftBounds 1 d) (sumsBounds e s ++ spelled 3 m (acc * 256 + b)) (within-first (draftBounds 1 d) (sumsBounds e s ++ spelled 3 (suc m) acc) w)
-        (within-append (sumsBounds e s) (spelled 3 m (acc * 256 + b)) (within-first (sumsBounds e s) (spelled 3 (suc m) acc) (w .1 .1 .1)) (spelled-next 3 m acc b hb (w .1 .1 .1 .1 .1 .1 .1))),
+    within-append (draftBounds 1 d) (sumsBounds e s ++ spelledBounds 3 m (acc * 256 + b)) (within-first (draftBounds 1 d) (sumsBounds e s ++ spelledBounds 3 (suc m) acc) w)
+        (within-append (sumsBounds e s) (spelledBounds 3 m (acc * 256 + b)) (within-first (sumsBounds e s) (spelledBounds 3 (suc m) acc) (w .1 .1 .1))
+        (spelled-next 3 m acc b hb (w .1 .1 .1 .1 .1 .1 .1))),
     k,
   )

@@ -23,7 +23,7 @@ use Rattle.state.specs.declared.Level.{Level}
 use Rattle.state.specs.declared.Levels.{Levels}
 use Rattle.state.specs.declared.Levels.the-variants as levels
 use Rattle.state.specs.declared.Slot.{Slot}
-use Rattle.state.specs.declared.Index.{Index}
+use Rattle.state.specs.declared.IndexRead.{IndexRead}
 use Rattle.state.specs.declared.InnerBox.the-variants as inners
 use Rattle.state.specs.declared.GapBoxes.{GapBoxes}
 use Rattle.state.specs.declared.LeafBoxes.{LeafBoxes}
@@ -73,7 +73,7 @@ follow-kept : (top : Top) (ls : Levels) (f : Flow) → Within (topBounds top) �
 follow-kept top ls f w v h k = onward-kept top (stillOpen ls) f w (still-open ls (f .now) v h) k
 
 -- The top index ends.
-index-ends : (t : ℕ) (x : Index) (f : Flow) (n : ℕ) → Read t topmost x f → StageKept (indexEnds x f n)
+index-ends : (t : ℕ) (x : IndexRead) (f : Flow) (n : ℕ) → Read t topmost x f → StageKept (indexEnds x f n)
 unfolding indexEnds stageBounds levelsBounds inmost gapBounds headBounds Ends
 index-ends t x f n r =
     pick-holds StageKept (eqb (x .offset) 0) _ _
@@ -118,7 +118,7 @@ module _ (top : Top) (ls : Levels) (slot : Slot) (t : ℕ) where
   abbrev bodyBounds : InnerBody → List Bound
   bodyBounds s = below (depth ls) 4 ∷ sidxBounds (s .sidx)
 
-  abbrev Inside : Index → Flow → Type 0
+  abbrev Inside : IndexRead → Flow → Type 0
   Inside x f = (depth ls < 4) × Read t (under top slot (depth ls)) x f
 
   inner-body : (s : InnerBody) (f : Flow) (n b : ℕ) → b < 256 → Within (bodyBounds s) → Flows t f →
@@ -138,7 +138,7 @@ module _ (top : Top) (ls : Levels) (slot : Slot) (t : ℕ) where
   inner-goes s f a y =
       (rw (y .1 .1) (within-four (topBounds top) (levelsBounds ls) (slotBounds ls slot t) (innerBounds ls (wrapInner s)) (a .0) (a .1) (a .2) (inner-wraps s (y .0))), y .1 .0)
 
-  inner-ends : (x : Index) (f : Flow) → Around top ls slot t → Inside x f → StageKept (follow top (push ls (innerLevel x slot)) f)
+  inner-ends : (x : IndexRead) (f : Flow) → Around top ls slot t → Inside x f → StageKept (follow top (push ls (innerLevel x slot)) f)
   inner-ends x f a y =
       follow-kept top (push ls (innerLevel x slot)) f (a .0)
       (push-levels ls (innerLevel x slot) (y .0) (a .1) (let w = y .1 .0 in omega arith) (a .2 .1 .1 .0))

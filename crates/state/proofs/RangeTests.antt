@@ -10,7 +10,7 @@ use lib.Dec.{leb}
 use borrow.Author.Tests.{leb-true, le-leb}
 use Rattle.basics.proofs.Tests.{and-both}
 use Rattle.state.specs.declared.State.{State}
-use Rattle.state.specs.Ranges.{Bound, within, Within, spelled, bounds, inRange, InRange}
+use Rattle.state.specs.Ranges.{Bound, within, Within, spelledBounds, bounds, inRange, InRange}
 
 within-true : (bs : List Bound) → within bs ≡ true → Within bs
 unfolding within
@@ -65,23 +65,23 @@ power-least zero = omega arith
 power-least (suc k) = let h : 0 < 256 ^ k = power-least k in rw pow-suc (omega arith)
 
 -- what is spelled by bytes of a number is spelled by as many of a longer one, or of one of which fewer follow
-pub spelled-within : (most more most' more' acc : ℕ) → more' ≤ most' → most - more ≤ most' - more' → Within (spelled most more acc) → Within (spelled most' more' acc)
+pub spelled-within : (most more most' more' acc : ℕ) → more' ≤ most' → most - more ≤ most' - more' → Within (spelledBounds most more acc) → Within (spelledBounds most' more' acc)
 spelled-within most more most' more' acc h j w =
     let k : 256 ^ (most - more) ≤ 256 ^ (most' - more') = pow-le-pow-right (omega arith) j in
     (h, (omega (arith, w .1 .0), tt))
 
 -- a number of which nothing was read yet
-pub spelled-first : (most more : ℕ) → more ≤ most → Within (spelled most more 0)
+pub spelled-first : (most more : ℕ) → more ≤ most → Within (spelledBounds most more 0)
 spelled-first most more h = (h, (power-least (most - more), tt))
 
 -- one more byte of a number, and others follow
-pub spelled-next : (most m acc b : ℕ) → b < 256 → Within (spelled most (suc m) acc) → Within (spelled most m (acc * 256 + b))
+pub spelled-next : (most m acc b : ℕ) → b < 256 → Within (spelledBounds most (suc m) acc) → Within (spelledBounds most m (acc * 256 + b))
 spelled-next most m acc b h w =
     let e : most - m ≡ suc (most - suc m) = omega arith in
     (omega arith, (rw (e, pow-suc 256 (most - suc m)) (omega (arith, w .1 .0)), tt))
 
 -- the last byte of a number
-pub spelled-last : (most acc b : ℕ) → b < 256 → Within (spelled most zero acc) → acc * 256 + b < 256 ^ suc most
+pub spelled-last : (most acc b : ℕ) → b < 256 → Within (spelledBounds most zero acc) → acc * 256 + b < 256 ^ suc most
 spelled-last most acc b h w =
     let e : most - zero ≡ most = omega arith in
     let k : acc < 256 ^ most = rw e at (w .1 .0) in

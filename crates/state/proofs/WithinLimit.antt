@@ -25,7 +25,7 @@ use Rattle.machine.proofs.Unrefused.{Any, unless-unrefused, lift-unrefused, InB
 use Rattle.state.specs.declared.Span.{Span}
 use Rattle.state.specs.declared.Draft.{Draft}
 use Rattle.state.specs.declared.Sums.{Sums}
-use Rattle.state.specs.declared.Index.{Index}
+use Rattle.state.specs.declared.IndexRead.{IndexRead}
 use Rattle.state.specs.declared.IndexPart.{IndexPart}
 use Rattle.state.specs.declared.IndexPart.the-variants as part
 use Rattle.state.specs.declared.EntryPart.{EntryPart}
@@ -56,7 +56,7 @@ use Rattle.state.specs.Flow.{Flow, Left, left, withNow, withWork}
 use Rattle.state.specs.Rows.{is}
 use Rattle.state.specs.Sidx as Index
 use Rattle.state.specs.Sidx.{Place, topmost, under, countFaults, sumFaults, entrySize, entrySizeFaults, wordPlace, indexOf, closeSidx, fieldEnds, entryEnds, stepSidx}
-use Rattle.state.specs.Opening.{OpeningGave, passed, indexed, brandsFrom, stypEnds, skipOpening, beginOpening, stepOpeningBody, openingBox, closeOpening, opening, wrapOpening, stepOpening}
+use Rattle.state.specs.Opening.{OpeningGave, passed, indexed, brandsFrom, stypEnds, skipOpening, beginOpening, stepOpeningBody, openingKind, closeOpening, opening, wrapOpening, stepOpening}
 use Rattle.state.specs.Leaf.{leafSo0, leafNext, leafNow, leafBoxes, wrapLeaf, stepLeaf}
 use Rattle.state.specs.Levels.{entryAt, entryPlace, inmost, depth, took, tookEntry, push, passedAll, stillOne, stillTwo, stillThree, stillOpen, altered, entryFaults, slotOf}
 use Rattle.state.specs.declared.StoredEntry.{StoredEntry}
@@ -149,7 +149,7 @@ InSidx span n (indexes.Entry e d s more acc) =
     (s .next < s .count) × (n + more + (8 - wordPlace e) + entryBytes * (s .count - suc (s .next)) < span .end) × (sizesRead e (s .next) ≤ s .sizes)
 
 -- one that was read whole, after n bytes: what its entries cover has a size, and ends within the limit, or where the index's entry does
-abbrev Read : Place → ℕ → Index → Type 0
+abbrev Read : Place → ℕ → IndexRead → Type 0
 Read topmost n x = (1 ≤ x .sizes) × (n + x .offset + x .sizes ≤ limit)
 Read (under top slot around) n x = (1 ≤ x .sizes) × (n + x .sizes ≡ slot .end)
 
@@ -160,7 +160,7 @@ count-fits span v n e =
     let some-entry : eqb v 0 ≡ false = or-neither (eqb v 0) (ltb mostEntries v) (shows-none _ 11 (span .pos) (none-second (shows (not fits) 6 (span .pos)) _ e)) .0 in
     (omega (arith, eqb-false v 0 some-entry), eqb-true _ _ (not-false fits (shows-none (not fits) 6 (span .pos) (none-first _ _ e))))
 
-sums-fit : (p : Place) (span : Span) (x : Index) (now n : ℕ) → 1 ≤ x .sizes → sumFaults p span x now n ≡ [] → Read p n x
+sums-fit : (p : Place) (span : Span) (x : IndexRead) (now n : ℕ) → 1 ≤ x .sizes → sumFaults p span x now n ≡ [] → Read p n x
 unfolding sumFaults
 sums-fit topmost span x now n some-size e =
     (some-size, ltb-false _ _ (or-neither (ltb limit (n + x .offset + x .sizes)) (leb timeLimit (x .time + x .durations)) (shows-none _ 14 (span .pos) e) .0))
@@ -172,7 +172,7 @@ module _ (p : Place) (span : Span) (n : ℕ) where
   abbrev Goes : Sidx → Flow → Type 0
   Goes s f = InSidx span n s
 
-  abbrev Ends : Index → Flow → Type 0
+  abbrev Ends : IndexRead → Flow → Type 0
   Ends x f = Read p n x
 
   field-ends : (i : IndexPart) (d : Draft) (v : ℕ) (f : Flow) → Unrefused Goes Ends (fieldEnds p span i d v f n)
@@ -186,7 +186,7 @@ module _ (p : Place) (span : Span) (n : ℕ) where
   field-ends part.Reserved d v f = tt
   field-ends part.Count d v f = unless-unrefused Goes Ends (countFaults span v n) (left f) _ (λ e. let h = count-fits span v n e in omega arith)
 
-  close-sidx : (x : Index) (f : Flow) → 1 ≤ x .sizes → Unrefused Goes Ends (closeSidx p span x f n)
+  close-sidx : (x : IndexRead) (f : Flow) → 1 ≤ x .sizes → Unrefused Goes Ends (closeSidx p span x f n)
   unfolding closeSidx
   close-sidx x f some-size = unless-unrefused Goes Ends (sumFaults p span x (f .now) n) (left f) _ (λ e. sums-fit p span x (f .now) n some-size e)
 
@@ -260,7 +260,7 @@ opening-box : (n brand : ℕ) (branded : Bool) (s : BoxPhase OpeningBody) (f : F
 opening-box n brand branded s f b h =
     boxes-unrefused (opening brand) wrapOpening (InOpeningBody (suc n)) (Opens (suc n)) (InOpening (suc n)) (λ x g. Read topmost (suc n) x) (λ a h' g. tt) (λ a s' g z. z)
     branded s f n b (close-opening (suc n) branded)
-    (box-unrefused (openingBox brand branded) (InOpeningBody n) (InOpeningBody (suc n)) (Opens (suc n)) n (begin-opening (suc n)) (step-opening-body n brand) s f b h)
+    (box-unrefused (openingKind brand branded) (InOpeningBody n) (InOpeningBody (suc n)) (Opens (suc n)) n (begin-opening (suc n)) (step-opening-body n brand) s f b h)
 
 step-opening : (n brand : ℕ) (s : OpeningBoxes) (f : Flow) (b : ℕ) → InOpening n s f → Unrefused (InOpening (suc n)) (λ x g. Read topmost (suc n) x) (stepOpening brand s f n b)
 unfolding stepOpening
@@ -310,7 +310,7 @@ onward-fits top (some ls) f n h = h
 follow-fits : (top : Top) (ls : Levels) (f : Flow) (n : ℕ) → Fits ls n → Unrefused (InStage n) Any (follow top ls f)
 follow-fits top ls f n h = onward-fits top (stillOpen ls) f n (still-open ls n h)
 
-index-ends : (x : Index) (f : Flow) (n : ℕ) → Read topmost n x → Unrefused (InStage n) Any (indexEnds x f n)
+index-ends : (x : IndexRead) (f : Flow) (n : ℕ) → Read topmost n x → Unrefused (InStage n) Any (indexEnds x f n)
 unfolding indexEnds
 index-ends x f n h =
     let most : toCome (topLevel x n) ≤ 1 = to-come-most (topLevel x n) in
@@ -326,7 +326,7 @@ module _ (top : Top) (ls : Levels) (slot : Slot) (h : Fits ls (slot .end)) where
   abbrev InInnerBody : ℕ → InnerBody → Flow → Type 0
   InInnerBody n s f = (s .span .end ≤ slot .end) × InSidx (s .span) n (s .sidx)
 
-  abbrev Inner-ends : ℕ → Index → Flow → Type 0
+  abbrev Inner-ends : ℕ → IndexRead → Flow → Type 0
   Inner-ends n x f = Read (under top slot (depth ls)) n x
 
   inner-body : (n : ℕ) (s : InnerBody) (f : Flow) (b : ℕ) → InInnerBody n s f →
@@ -340,7 +340,7 @@ module _ (top : Top) (ls : Levels) (slot : Slot) (h : Fits ls (slot .end)) where
   inner-wraps n (inHead x) f z = (h, tt)
   inner-wraps n (inBody s) f z = (h, z)
 
-  inner-ends : (n : ℕ) (x : Index) (f : Flow) → Inner-ends n x f → Unrefused (InStage n) Any (follow top (push ls (innerLevel x slot)) f)
+  inner-ends : (n : ℕ) (x : IndexRead) (f : Flow) → Inner-ends n x f → Unrefused (InStage n) Any (follow top (push ls (innerLevel x slot)) f)
   inner-ends n x f z =
       follow-fits top (push ls (innerLevel x slot)) f n (push-fits ls (innerLevel x slot) n h (omega (arith, to-come-most (innerLevel x slot))))
 

@@ -36,7 +36,7 @@ withNow f t = record { leaves = f .leaves; now = t; last = f .last; work = f .wo
 abbrev pub withWork : Flow → List ℕ → Flow
 withWork f work = record { leaves = f .leaves; now = f .now; last = f .last; work = work; table = f .table }
 
--- a byte of the work area
+-- a byte stored in the work area
 abbrev pub stored : Flow → ℕ → ℕ → Flow
 stored f i b = withWork f (set (f .work) i b)
 

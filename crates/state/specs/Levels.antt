@@ -18,7 +18,7 @@ use Rattle.state.specs.declared.Slot.{Slot}
 use Rattle.state.specs.declared.StoredEntry.{StoredEntry}
 use Rattle.state.specs.Sidx.{entrySize}
 
--- an entry as it stands in the work area, 12 bytes from a place on
+-- the number that four bytes of the work area spell, and an entry as it stands there, 12 bytes from a place on
 abbrev pub wordAt : List ℕ → ℕ → ℕ
 wordAt work i = number (take 4 (drop i work))
 
@@ -60,10 +60,11 @@ push (levels.Two a b) l = levels.Three a b l
 push (levels.Three a b c) l = levels.Four a b c l
 push (levels.Four a b c d) l = levels.Four a b c d
 
--- the indexes that still have an entry to come: those that have none left are closed, from the innermost on
+-- an index has no entry left
 abbrev pub passedAll : Level → Bool
 passedAll l = eqb (l .next) (l .count)
 
+-- the indexes that still have an entry to come: those that have none left are closed, from the innermost on
 unfoldable pub stillOne : Level → Option Levels
 stillOne a = pick (passedAll a) none (some (levels.One a))
 

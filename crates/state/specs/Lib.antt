@@ -12,5 +12,5 @@ pub mod Ranges
 pub mod Numbers
 pub mod Calls
 pub mod Named
-pub mod Parts
+pub mod Cutting
 pub mod Jump

@@ -35,7 +35,7 @@ use Rattle.state.specs.declared.Stage.{Stage}
 use Rattle.state.specs.declared.Stage.the-variants as stage
 use Rattle.basics.specs.Put.{putAll}
 use Rattle.state.specs.Levels.{depth}
-use Rattle.state.specs.Ranges.{Within, spelled}
+use Rattle.state.specs.Ranges.{Within, spelledBounds}
 use Rattle.state.specs.Sidx.{Place, topmost, under, numberPlace, nextByte}
 
 -- The number at hand: so many bytes follow the next one, those before it spell `acc`; the same with another pair of these; and where
@@ -139,4 +139,4 @@ Short (some i) more = (more ≤ 3) × (i + 3 < workBytes)
 
 -- a number has at most eight bytes
 abbrev pub Fits : {S : Type 0} → Number S → Type 0
-Fits x = Within (spelled 7 (x .more) (x .acc)) × Short (x .place) (x .more)
+Fits x = Within (spelledBounds 7 (x .more) (x .acc)) × Short (x .place) (x .more)

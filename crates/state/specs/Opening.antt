@@ -12,7 +12,7 @@ use Rattle.machine.specs.Lists.{BoxPhase, inHead, inBody, Kind, Next, again, ov
 use Rattle.machine.specs.declared.Refusal.{Refusal}
 use Rattle.machine.specs.declared.Header.{Header}
 use Rattle.state.specs.declared.Span.{Span}
-use Rattle.state.specs.declared.Index.{Index}
+use Rattle.state.specs.declared.IndexRead.{IndexRead}
 use Rattle.state.specs.declared.StypPart.{StypPart}
 use Rattle.state.specs.declared.StypPart.the-variants as styps
 use Rattle.state.specs.declared.OpeningBody.{OpeningBody}
@@ -26,7 +26,7 @@ use Rattle.state.specs.Sidx.{topmost, sidxStart, stepSidx}
 -- what a box up to the top index gives: it is passed, or it was the top index
 pub data OpeningGave : Type 0 where
   passed : OpeningGave
-  indexed : Index → OpeningGave
+  indexed : IndexRead → OpeningGave
 
 abbrev Sub' : Type 0
 Sub' = Sub OpeningBody OpeningGave Flow Left
@@ -65,22 +65,22 @@ stepOpeningBody brand (body.Styp span part listed more acc) f n b =
     numberByte (λ m v. go (body.Styp span part listed m v) f) (λ v. stypEnds brand span part listed v f (suc n)) more acc b
 stepOpeningBody brand (body.Index span s) f n b = lift (body.Index span) (λ x g. done (indexed x) g) bad (stepSidx topmost span s f n b)
 
-abbrev pub openingBox : ℕ → Bool → Kind OpeningBody OpeningGave Flow Left
-openingBox brand branded =
+abbrev pub openingKind : ℕ → Bool → Kind OpeningBody OpeningGave Flow Left
+openingKind brand branded =
     record { left = left; end = limit; shown = λ h f. openingFaults branded h; begin = beginOpening; body = stepOpeningBody brand }
 
 -- after `styp` or a skipped box others follow; the top index ends the list
-unfoldable pub closeOpening : Bool → OpeningGave → Flow → ℕ → Next Bool Index
+unfoldable pub closeOpening : Bool → OpeningGave → Flow → ℕ → Next Bool IndexRead
 closeOpening branded passed f n = again true []
 closeOpening branded (indexed x) f n = over x []
 
-abbrev pub opening : ℕ → Boxes Bool OpeningBody OpeningGave Index Flow Left
-opening brand = record { kept = left; box = openingBox brand; close = closeOpening; beside = λ branded kept n. [] }
+abbrev pub opening : ℕ → Boxes Bool OpeningBody OpeningGave IndexRead Flow Left
+opening brand = record { kept = left; box = openingKind brand; close = closeOpening; beside = λ branded kept n. [] }
 
 abbrev pub wrapOpening : Bool → BoxPhase OpeningBody → OpeningBoxes
 wrapOpening branded (inHead h) = boxes.Head branded h
 wrapOpening branded (inBody s) = boxes.Body branded s
 
-unfoldable pub stepOpening : ℕ → OpeningBoxes → Flow → ℕ → ℕ → Sub OpeningBoxes Index Flow Left
+unfoldable pub stepOpening : ℕ → OpeningBoxes → Flow → ℕ → ℕ → Sub OpeningBoxes IndexRead Flow Left
 stepOpening brand (boxes.Head branded h) f n b = stepBoxes (opening brand) wrapOpening branded (inHead h) f n b
 stepOpening brand (boxes.Body branded s) f n b = stepBoxes (opening brand) wrapOpening branded (inBody s) f n b

@@ -4,7 +4,7 @@ use Prim.Native.Nat.{ℕ, suc, _+_, _-_, _*_, _^_, _≤_}
 use mathlib.Core.List.{List, [], _∷_, _++_}
 use mathlib.Core.Bool.{Bool, true, _&&_}
 use lib.Dec.{leb}
-use Rattle.segment.specs.Constants.{limit, timeLimit, wordLimit, typeBit, mostEntries}
+use Rattle.segment.specs.Constants.{limit, timeLimit, typeBit, mostEntries}
 use Rattle.table.specs.Table.{mostRecords}
 use Rattle.machine.specs.declared.Head.{Head}
 use Rattle.machine.specs.declared.Head.the-variants as at
@@ -50,6 +50,10 @@ use Rattle.state.specs.declared.State.the-variants as state
 use Rattle.state.specs.Levels.{inmost, depth}
 use Rattle.state.specs.Sidx.{wideMore}
 
+-- every number of 32 bits is below this
+abbrev pub wordLimit : ℕ
+wordLimit = 4294967296
+
 -- the first number is at most the second
 pub record Bound : Type 0 where
   pub low : ℕ
@@ -71,15 +75,15 @@ Within [] = Unit {0}
 Within (b ∷ bs) = (b .low ≤ b .high) × Within bs
 
 -- a number of at most `most` + 1 bytes: those read spell it so far
-abbrev pub spelled : ℕ → ℕ → ℕ → List Bound
-spelled most more acc = atMost more most ∷ below acc (256 ^ (most - more)) ∷ []
+abbrev pub spelledBounds : ℕ → ℕ → ℕ → List Bound
+spelledBounds most more acc = atMost more most ∷ below acc (256 ^ (most - more)) ∷ []
 
 -- a header that is being read
 unfoldable pub headBounds : Head → List Bound
 headBounds at.First = []
-headBounds (at.Size pos more acc) = atMost pos limit ∷ spelled 3 more acc
-headBounds (at.Kind pos size more acc) = atMost pos limit ∷ spelled 3 more acc
-headBounds (at.Large pos kind more acc) = atMost pos limit ∷ spelled 7 more acc
+headBounds (at.Size pos more acc) = atMost pos limit ∷ spelledBounds 3 more acc
+headBounds (at.Kind pos size more acc) = atMost pos limit ∷ spelledBounds 3 more acc
+headBounds (at.Large pos kind more acc) = atMost pos limit ∷ spelledBounds 7 more acc
 
 -- how many bytes follow the first of a number
 unfoldable pub trafMost : TrafPart → ℕ
@@ -92,7 +96,7 @@ trafMost (trafPart.Time pos) = 7
 unfoldable pub trafBodyBounds : TrafBody → List Bound
 trafBodyBounds (trafs.Skip stop) = []
 trafBodyBounds (trafs.Rest stop r) = []
-trafBodyBounds (trafs.Field p more acc) = spelled (trafMost p) more acc
+trafBodyBounds (trafs.Field p more acc) = spelledBounds (trafMost p) more acc
 
 unfoldable pub trafBounds : TrafBoxes → List Bound
 trafBounds (trafBox.Head so h) = headBounds h
@@ -158,12 +162,12 @@ sumsBounds e s =
     ∷ []
 
 unfoldable pub sidxBounds : Sidx → List Bound
-sidxBounds (sidx.Field i d more acc) = draftBounds (scaleLeast i) d ++ spelled (indexMost i (d .wide)) more acc
-sidxBounds (sidx.Entry e d s more acc) = draftBounds 1 d ++ (sumsBounds e s ++ spelled 3 more acc)
+sidxBounds (sidx.Field i d more acc) = draftBounds (scaleLeast i) d ++ spelledBounds (indexMost i (d .wide)) more acc
+sidxBounds (sidx.Entry e d s more acc) = draftBounds 1 d ++ (sumsBounds e s ++ spelledBounds 3 more acc)
 
 unfoldable pub openingBodyBounds : OpeningBody → List Bound
 openingBodyBounds (openings.Skip stop) = []
-openingBodyBounds (openings.Styp span p listed more acc) = spelled 3 more acc
+openingBodyBounds (openings.Styp span p listed more acc) = spelledBounds 3 more acc
 openingBodyBounds (openings.Index span s) = sidxBounds s
 
 unfoldable pub openingBounds : OpeningBoxes → List Bound

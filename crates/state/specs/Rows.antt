@@ -8,8 +8,8 @@ use Rattle.segment.specs.Constants.{levels, styp, sidx, moof, mdat, tfhd, tfdt,
 use Rattle.machine.specs.Faults.{shows}
 use Rattle.machine.specs.declared.Refusal.{Refusal}
 use Rattle.machine.specs.declared.Header.{Header}
-use Rattle.state.specs.declared.Track.{Track}
-use Rattle.state.specs.declared.Track.the-variants as track
+use Rattle.state.specs.declared.TrafPhase.{TrafPhase}
+use Rattle.state.specs.declared.TrafPhase.the-variants as track
 use Rattle.state.specs.Flow.{Flow}
 use Rattle.table.specs.Table.{room}
 
@@ -52,25 +52,25 @@ leafFaults pos hadMoof h f =
 
 -- row 7: a later top-level `styp`; row 9: an index entry not starting with `sidx`; row 13: index on level 5
 unfoldable pub innerFaults : ℕ → Header → List Refusal
-innerFaults depth h =
+innerFaults around h =
     topLengths h
     ++ (shows (is h styp) 7 (h .pos)
     ++ (shows (not (is h sidx)) 9 (h .pos)
-    ++ shows (is h sidx && leb levels depth) 13 (h .pos)))
+    ++ shows (is h sidx && leb levels around) 13 (h .pos)))
 
 -- rule 6: whether a `tfhd` may come, and whether a `tfdt` may
-unfoldable pub fresh : Track → Bool
+unfoldable pub fresh : TrafPhase → Bool
 fresh track.Fresh = true
 fresh (track.Headed r) = false
 fresh track.Timed = false
 
-unfoldable pub headedTrack : Track → Bool
+unfoldable pub headedTrack : TrafPhase → Bool
 headedTrack track.Fresh = false
 headedTrack (track.Headed r) = true
 headedTrack track.Timed = false
 
 -- row 6, at H: `tfhd` or `tfdt` under 8; row 16: `tfdt` before `tfhd`, a second of either; row 17: `tfad` in `traf`
-unfoldable pub trafFaults : Track → Header → List Refusal
+unfoldable pub trafFaults : TrafPhase → Header → List Refusal
 trafFaults t h =
     shows ((is h tfhd || is h tfdt) && ltb (bodyLength h) 8) 6 (h .pos)
     ++ (shows (is h tfhd && not (fresh t) || is h tfdt && not (headedTrack t)) 16 (h .pos)

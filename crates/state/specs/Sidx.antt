@@ -11,7 +11,7 @@ use Rattle.machine.specs.declared.Refusal.{Refusal}
 use Rattle.state.specs.declared.Span.{Span}
 use Rattle.state.specs.declared.Draft.{Draft}
 use Rattle.state.specs.declared.Sums.{Sums}
-use Rattle.state.specs.declared.Index.{Index}
+use Rattle.state.specs.declared.IndexRead.{IndexRead}
 use Rattle.state.specs.declared.Top.{Top}
 use Rattle.state.specs.declared.Slot.{Slot}
 use Rattle.state.specs.declared.IndexPart.{IndexPart}
@@ -30,7 +30,7 @@ pub data Place : Type 0 where
 -- its level's part of the work area
 unfoldable pub partOf : Place → ℕ
 partOf topmost = 0
-partOf (under top slot depth) = levelBytes * depth
+partOf (under top slot around) = levelBytes * around
 
 abbrev pub draft0 : Draft
 draft0 = record { wide = false; id = 0; scale = 0; time = 0; offset = 0 }
@@ -45,22 +45,22 @@ sidxVersionFaults span v n = shows (ltb 1 v) 10 (span .pos) ++ shows (eqb v 1 &&
 -- row 12, a field of rule 4, each at its end: an inner index has its parent's reference ID
 unfoldable pub idFaults : Place → Span → ℕ → List Refusal
 idFaults topmost span v = []
-idFaults (under top slot depth) span v = shows (not (eqb v (top .id))) 12 (span .pos)
+idFaults (under top slot around) span v = shows (not (eqb v (top .id))) 12 (span .pos)
 
 -- row 11: timescale 0; row 12: an inner index has its parent's timescale
 unfoldable pub scaleFaults : Place → Span → ℕ → List Refusal
 scaleFaults topmost span v = shows (eqb v 0) 11 (span .pos)
-scaleFaults (under top slot depth) span v = shows (eqb v 0) 11 (span .pos) ++ shows (not (eqb v (top .scale))) 12 (span .pos)
+scaleFaults (under top slot around) span v = shows (eqb v 0) 11 (span .pos) ++ shows (not (eqb v (top .scale))) 12 (span .pos)
 
 -- row 12: an inner index has the start time at which its entry stands
 unfoldable pub timeFaults : Place → Span → ℕ → ℕ → List Refusal
 timeFaults topmost span now v = []
-timeFaults (under top slot depth) span now v = shows (not (eqb v now)) 12 (span .pos)
+timeFaults (under top slot around) span now v = shows (not (eqb v now)) 12 (span .pos)
 
 -- row 12: an inner index has first offset 0
 unfoldable pub offsetFaults : Place → Span → ℕ → List Refusal
 offsetFaults topmost span v = []
-offsetFaults (under top slot depth) span v = shows (not (eqb v 0)) 12 (span .pos)
+offsetFaults (under top slot around) span v = shows (not (eqb v 0)) 12 (span .pos)
 
 -- row 6: length not that of the count; row 11: count 0 or above 1,024 (its last byte, the n-th)
 unfoldable pub countFaults : Span → ℕ → ℕ → List Refusal
@@ -68,10 +68,10 @@ countFaults span v n = shows (not (eqb (span .end) (n + entryBytes * v))) 6 (spa
 
 -- row 14: material ends past byte 268,435,456, or start plus durations exceeds 2^64 − 1 (top index's end, the n-th byte);
 -- row 12: its durations sum to the entry's, its box size plus its entry sizes make the entry's size (box end)
-unfoldable pub sumFaults : Place → Span → Index → ℕ → ℕ → List Refusal
+unfoldable pub sumFaults : Place → Span → IndexRead → ℕ → ℕ → List Refusal
 sumFaults topmost span x now n =
     shows (ltb limit (n + x .offset + x .sizes) || leb timeLimit (x .time + x .durations)) 14 (span .pos)
-sumFaults (under top slot depth) span x now n =
+sumFaults (under top slot around) span x now n =
     shows (not (eqb (n + x .sizes) (slot .end) && eqb (now + x .durations) (slot .until))) 12 (span .pos)
 
 -- time and first offset have 32 bits in version 0, 64 in version 1: so many bytes follow the first
@@ -79,14 +79,14 @@ unfoldable pub wideMore : Bool → ℕ
 wideMore true = 7
 wideMore false = 3
 
-abbrev pub indexOf : Draft → Sums → Index
+abbrev pub indexOf : Draft → Sums → IndexRead
 indexOf d s = record { id = d .id; scale = d .scale; time = d .time; offset = d .offset; count = s .count; sizes = s .sizes; durations = s .durations }
 
 abbrev Sub' : Type 0
-Sub' = Sub Sidx Index Flow Left
+Sub' = Sub Sidx IndexRead Flow Left
 
 -- the entries are read, and the box ends
-unfoldable pub closeSidx : Place → Span → Index → Flow → ℕ → Sub'
+unfoldable pub closeSidx : Place → Span → IndexRead → Flow → ℕ → Sub'
 closeSidx p span x f n = unless (sumFaults p span x (f .now) n) (λ y. bad y (left f)) (done x f)
 
 -- a number of the index is read
@@ -136,7 +136,7 @@ entryEnds p span entry.Duration d s v f n = go (sidx.Entry entry.Sap d (plusDura
 entryEnds p span entry.Sap d s v f n =
     pick (eqb (suc (s .next)) (s .count)) (closeSidx p span (indexOf d s) f n) (go (sidx.Entry entry.Size d (nextEntry s) 3 0) f)
 
--- where a byte of an entry is stored: in its level's part, its entry, its number
+-- where a number of an entry stands in it, and where it is stored: in its level's part, in its entry
 unfoldable pub wordPlace : EntryPart → ℕ
 wordPlace entry.Size = 0
 wordPlace entry.Duration = 4

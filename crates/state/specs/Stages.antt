@@ -19,7 +19,7 @@ use Rattle.state.specs.declared.Levels.{Levels}
 use Rattle.state.specs.declared.Levels.the-variants as levels
 use Rattle.state.specs.declared.Seen.{Seen}
 use Rattle.state.specs.declared.Slot.{Slot}
-use Rattle.state.specs.declared.Index.{Index}
+use Rattle.state.specs.declared.IndexRead.{IndexRead}
 use Rattle.state.specs.declared.Sidx.{Sidx}
 use Rattle.state.specs.declared.OpeningBoxes.the-variants as openings
 use Rattle.state.specs.declared.GapBoxes.{GapBoxes}
@@ -73,14 +73,14 @@ abbrev pub follow : Top → Levels → Flow → Sub'
 follow top ls f = onward top (stillOpen ls) f
 
 -- What the top index says of the segment; where and when its material ends, when the box of the index ends with byte n.
-abbrev pub topOf : Index → Top
+abbrev pub topOf : IndexRead → Top
 topOf x = record { id = x .id; scale = x .scale; start = x .time; durations = x .durations }
 
-abbrev pub topLevel : Index → ℕ → Level
+abbrev pub topLevel : IndexRead → ℕ → Level
 topLevel x n = record { next = 0; count = x .count; end = n + x .offset + x .sizes; until = x .time + x .durations }
 
 -- "The material starts at the end of the top index plus its first offset."
-unfoldable pub indexEnds : Index → Flow → ℕ → Sub'
+unfoldable pub indexEnds : IndexRead → Flow → ℕ → Sub'
 indexEnds x f n =
     pick (eqb (x .offset) 0)
     (follow (topOf x) (levels.One (topLevel x n)) (withNow f (x .time)))
@@ -91,13 +91,13 @@ pub record InnerBody : Type 0 where
   pub span : Span
   pub sidx : Sidx
 
-abbrev pub liftSidx : Span → Sub Sidx Index Flow Left → Sub InnerBody Index Flow Left
+abbrev pub liftSidx : Span → Sub Sidx IndexRead Flow Left → Sub InnerBody IndexRead Flow Left
 liftSidx span r = lift (λ s. record { span = span; sidx = s }) done bad r
 
-abbrev pub beginInner : Header → Flow → ℕ → Sub InnerBody Index Flow Left
+abbrev pub beginInner : Header → Flow → ℕ → Sub InnerBody IndexRead Flow Left
 beginInner h f n = go (record { span = spanOf h; sidx = sidxStart }) f
 
-abbrev pub innerKind : Top → Slot → ℕ → Kind InnerBody Index Flow Left
+abbrev pub innerKind : Top → Slot → ℕ → Kind InnerBody IndexRead Flow Left
 innerKind top slot around =
     record {
       left = left;
@@ -111,11 +111,11 @@ abbrev pub wrapInner : BoxPhase InnerBody → InnerBox
 wrapInner (inHead h) = inners.Head h
 wrapInner (inBody s) = inners.Body (s .span) (s .sidx)
 
-abbrev pub innerLevel : Index → Slot → Level
+abbrev pub innerLevel : IndexRead → Slot → Level
 innerLevel x slot = record { next = 0; count = x .count; end = slot .end; until = slot .until }
 
 -- after an inner index its entries follow, on the next level
-abbrev pub liftInner : Top → Levels → Slot → Sub (BoxPhase InnerBody) Index Flow Left → Sub'
+abbrev pub liftInner : Top → Levels → Slot → Sub (BoxPhase InnerBody) IndexRead Flow Left → Sub'
 liftInner top ls slot r =
     lift (λ s. stage.Inner top ls slot (wrapInner s)) (λ x f. follow top (push ls (innerLevel x slot)) f) bad r
 

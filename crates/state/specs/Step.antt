@@ -1,4 +1,4 @@
--- One byte of a segment, and Run, its fold over the bytes.
+-- One byte of a segment, and all bytes, one after the other.
 use Prim.Native.Nat.{ℕ, suc}
 use mathlib.Core.List.{List, [], _∷_}
 use mathlib.Core.Bool.{false}
@@ -58,7 +58,7 @@ step (reading n s f) b =
 step (ended n top kept) b = refused (suc n) (lowest (pastMaterial n) (pastLimit n)) kept
 step (refused n x kept) b = refused n x kept
 
--- Run: the bytes one after the other
+-- the bytes one after the other
 unfoldable pub stepAll : World → List ℕ → World
 stepAll w [] = w
 stepAll w (b ∷ bs) = stepAll (step w b) bs

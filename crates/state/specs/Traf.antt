@@ -13,8 +13,8 @@ use Rattle.machine.specs.declared.Refusal.{Refusal}
 use Rattle.machine.specs.declared.Header.{Header}
 use Rattle.state.specs.declared.Span.{Span}
 use Rattle.state.specs.declared.Seen.{Seen}
-use Rattle.state.specs.declared.Track.{Track}
-use Rattle.state.specs.declared.Track.the-variants as track
+use Rattle.state.specs.declared.TrafPhase.{TrafPhase}
+use Rattle.state.specs.declared.TrafPhase.the-variants as track
 use Rattle.state.specs.declared.TrafSo.{TrafSo}
 use Rattle.state.specs.declared.TrafPart.{TrafPart}
 use Rattle.state.specs.declared.TrafPart.the-variants as part
@@ -45,8 +45,8 @@ fallFaults last nothing = []
 fallFaults last (headed r) = []
 fallFaults last (timed r pos v) = shows (r && ltb v last) 18 pos
 
--- whether a track is the reference track
-unfoldable pub reference : Track → Bool
+-- whether a `tfhd` was read of the reference track, and no `tfdt` yet
+unfoldable pub reference : TrafPhase → Bool
 reference track.Fresh = false
 reference (track.Headed r) = r
 reference track.Timed = false
@@ -58,7 +58,7 @@ abbrev pub restFrom : ℕ → Bool → Flow → ℕ → Sub'
 restFrom end r f n = skipTraf (headed r) (λ stop. body.Rest stop r) end f n
 
 -- a number of a `tfhd` or a `tfdt` is read; `id` is the top index's reference ID
-unfoldable pub trafEnds : ℕ → Track → TrafPart → ℕ → Flow → ℕ → Sub'
+unfoldable pub trafEnds : ℕ → TrafPhase → TrafPart → ℕ → Flow → ℕ → Sub'
 trafEnds id t (part.HeadFlags end) v f n = go (body.Field (part.TrackId end) 3 0) f
 trafEnds id t (part.TrackId end) v f n = restFrom end (eqb v id) f n
 trafEnds id t (part.Version pos end) v f n =
@@ -72,13 +72,13 @@ beginTraf h f n =
     pick (is h tfhd) (go (body.Field (part.HeadFlags (boxEnd h)) 3 0) f)
     (pick (is h tfdt) (go (body.Field (part.Version (h .pos) (boxEnd h)) 0 0) f) (skipTraf nothing body.Skip (boxEnd h) f n))
 
-unfoldable pub stepTrafBody : ℕ → Track → TrafBody → Flow → ℕ → ℕ → Sub'
+unfoldable pub stepTrafBody : ℕ → TrafPhase → TrafBody → Flow → ℕ → ℕ → Sub'
 stepTrafBody id t (body.Skip stop) f n b = skipTraf nothing body.Skip stop f (suc n)
 stepTrafBody id t (body.Rest stop r) f n b = restFrom stop r f (suc n)
 stepTrafBody id t (body.Field p more acc) f n b = numberByte (λ m v. go (body.Field p m v) f) (λ v. trafEnds id t p v f (suc n)) more acc b
 
-abbrev pub trafBox : ℕ → ℕ → TrafSo → Kind TrafBody Gave Flow Left
-trafBox id end so =
+abbrev pub trafKind : ℕ → ℕ → TrafSo → Kind TrafBody Gave Flow Left
+trafKind id end so =
     record { left = left; end = end; shown = λ h f. trafFaults (so .track) h; begin = beginTraf; body = stepTrafBody id (so .track) }
 
 -- one more decode time, which counts where it is the reference track's
@@ -92,7 +92,7 @@ trafNow so (headed r) = record { track = track.Headed r; seen = so .seen }
 trafNow so (timed r pos v) = record { track = track.Timed; seen = saw (so .seen) r v }
 
 -- row 16: one missing (end of `traf`, place `traf`)
-unfoldable pub lacking : ℕ → Track → List Refusal
+unfoldable pub lacking : ℕ → TrafPhase → List Refusal
 lacking pos track.Fresh = shows true 16 pos
 lacking pos (track.Headed r) = shows true 16 pos
 lacking pos track.Timed = []
@@ -105,7 +105,7 @@ abbrev pub trafBoxes : ℕ → Span → Boxes TrafSo TrafBody Gave Seen Flow Lef
 trafBoxes id span =
     record {
       kept = left;
-      box = λ so. trafBox id (span .end) so;
+      box = λ so. trafKind id (span .end) so;
       close = λ so gave f n. trafNext span (trafNow so gave) (fallFaults (so .seen .last) gave) n;
       beside = λ so kept n. pick (eqb n (span .end)) (lacking (span .pos) (so .track)) [];
     }

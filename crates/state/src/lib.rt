@@ -35,7 +35,7 @@ pub struct Seen {
 }
 
 // How far a `traf` has come: no `tfhd` yet, `tfhd` read, `tfdt` read.
-pub enum Track {
+pub enum TrafPhase {
     Fresh,
     Headed { reference: bool },
     Timed,
@@ -43,7 +43,7 @@ pub enum Track {
 
 // What is known of a `traf` between two of its boxes.
 pub struct TrafSo {
-    pub track: Track,
+    pub track: TrafPhase,
     pub seen: Seen,
 }
 
@@ -287,7 +287,7 @@ pub enum State {
 }
 
 // An index that was read whole.
-pub struct Index {
+pub struct IndexRead {
     pub id: u64,
     pub scale: u64,
     pub time: u64,

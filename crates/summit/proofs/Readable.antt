@@ -10,7 +10,7 @@ use Rattle.basics.proofs.Bytes.{bytes-first, bytes-second}
 use Rattle.state.specs.declared.State.{State}
 use Rattle.state.specs.declared.FeedAnswer.{FeedAnswer}
 use Rattle.state.specs.Calls.{Out, startOf, finishOf}
-use Rattle.state.specs.Parts.{Held, held, heldAfter, feedHeld, feedAll, joined}
+use Rattle.state.specs.Cutting.{Held, held, heldAfter, feedHeld, feedAll, joined}
 use Rattle.covering.specs.Lookup.{lookupOf}
 use Rattle.demands.specs.Demands.{inParts}
 use Rattle.summit.specs.Contracts.{StartCall, FeedCall, FinishCall, LookupCall, pieceOf, InOrder, SegmentRead, timeAsked, tableLent}

@@ -15,7 +15,7 @@ use Rattle.state.specs.declared.FinishAnswer.{FinishAnswer}
 use Rattle.state.specs.declared.FinishAnswer.the-variants as finishes
 use Rattle.table.specs.Table.{room}
 use Rattle.state.specs.Calls.{Out, out, startOf, Finished, finishOf, wholeOf}
-use Rattle.state.specs.Parts.{Held, held, heldAfter, feedHeld, feedAll, finishHeld, joined}
+use Rattle.state.specs.Cutting.{Held, held, heldAfter, feedHeld, feedAll, finishHeld, joined}
 use Rattle.start.proofs.OneOutcome.{start-once}
 use Rattle.feed.proofs.OneOutcome.{feed-once}
 use Rattle.finish.proofs.OneOutcome.{finish-once}

@@ -11,7 +11,7 @@ use Rattle.basics.specs.Bytes.{number}
 use Rattle.basics.specs.Outcome.{afterCall}
 use Rattle.state.specs.declared.FinishAnswer.{FinishAnswer}
 use Rattle.state.specs.Calls.{Out, out}
-use Rattle.state.specs.Parts.{Held, held}
+use Rattle.state.specs.Cutting.{Held, held}
 use Rattle.start.proofs.start.Kinds as start-kinds
 use Rattle.start.proofs.start.Reads as start-stated
 use Rattle.feed.proofs.feed.Kinds as feed-kinds

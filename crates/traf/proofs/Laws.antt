@@ -20,8 +20,8 @@ use Rattle.state.specs.Traf.{trafEnds, lacking, trafNext, trafBoxes, wrapTraf}
 use Rattle.state.specs.Ranges.{Within, trafMost, trafBodyBounds}
 use Rattle.state.specs.declared.Span.{Span}
 use Rattle.state.specs.declared.Seen.{Seen}
-use Rattle.state.specs.declared.Track.{Track}
-use Rattle.state.specs.declared.Track.the-variants as track
+use Rattle.state.specs.declared.TrafPhase.{TrafPhase}
+use Rattle.state.specs.declared.TrafPhase.the-variants as track
 use Rattle.state.specs.declared.TrafPart.{TrafPart}
 use Rattle.state.specs.declared.TrafPart.the-variants as part
 use Rattle.state.specs.declared.TrafBody.the-variants as body
@@ -32,7 +32,7 @@ use Rattle.header.proofs.Steps.{spelled-small}
 use Rattle.header.proofs.Flaws.{Test, first, Placed, under, past, flaw-first, flaw-else, shown-placed, size-placed}
 
 -- how long a decode time is hangs on the version
-pub time-flags : (id : ℕ) (t : Track) (pos : ℕ) (wide : Bool) (v : ℕ) (f : Flow) (n : ℕ) → trafEnds id t (part.TimeFlags pos wide) v f n ≡ go (body.Field (part.Time pos) (pick wide 7 3) 0) f
+pub time-flags : (id : ℕ) (t : TrafPhase) (pos : ℕ) (wide : Bool) (v : ℕ) (f : Flow) (n : ℕ) → trafEnds id t (part.TimeFlags pos wide) v f n ≡ go (body.Field (part.Time pos) (pick wide 7 3) 0) f
 unfolding trafEnds pick
 time-flags id t pos true v f n = refl
 time-flags id t pos false v f n = refl
@@ -47,7 +47,7 @@ or-nothing true = refl
 or-nothing false = refl
 
 -- what a header shows in a `traf`, as tests in the order of their numbers
-module _ (t : Track) (h : Header) where
+module _ (t : TrafPhase) (h : Header) where
   abbrev pub short : Test
   short = ((is h tfhd || is h tfdt) && ltb (bodyLength h) 8, 6)
 
@@ -72,13 +72,13 @@ module _ (t : Track) (h : Header) where
   box-flaws end = rw traf-flaws (flaw-else short (misplaced ∷ adjusted ∷ []) (h .pos) (under end h) (past end h ∷ []) (omega arith))
 
 -- what a `traf` lacks
-pub lacks-none : (pos : ℕ) (t : Track) → timedTrack t ≡ true → lacking pos t ≡ []
+pub lacks-none : (pos : ℕ) (t : TrafPhase) → timedTrack t ≡ true → lacking pos t ≡ []
 unfolding lacking timedTrack
 lacks-none pos track.Fresh e = let z : _≡_ {A = ℕ} 0 1 = cc in absurd (omega arith)
 lacks-none pos (track.Headed r) e = let z : _≡_ {A = ℕ} 0 1 = cc in absurd (omega arith)
 lacks-none pos track.Timed e = refl
 
-pub lacks-one : (pos : ℕ) (t : Track) → timedTrack t ≡ false → lacking pos t ≡ refusal 16 pos ∷ []
+pub lacks-one : (pos : ℕ) (t : TrafPhase) → timedTrack t ≡ false → lacking pos t ≡ refusal 16 pos ∷ []
 unfolding lacking timedTrack shows
 lacks-one pos track.Fresh e = refl
 lacks-one pos (track.Headed r) e = refl

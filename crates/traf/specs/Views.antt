@@ -11,8 +11,8 @@ use Rattle.state.specs.Flow.{Flow, Left, left}
 use Rattle.state.specs.Traf.{Gave, nothing, headed, timed, lacking}
 use Rattle.state.specs.declared.Span.{Span}
 use Rattle.state.specs.declared.Seen.{Seen}
-use Rattle.state.specs.declared.Track.{Track}
-use Rattle.state.specs.declared.Track.the-variants as track
+use Rattle.state.specs.declared.TrafPhase.{TrafPhase}
+use Rattle.state.specs.declared.TrafPhase.the-variants as track
 use Rattle.state.specs.declared.TrafBody.{TrafBody}
 use Rattle.state.specs.declared.TrafBoxes.{TrafBoxes}
 use Rattle.traf.specs.declared.Given.{Given}
@@ -44,11 +44,11 @@ viewTraf f (trafStep.Done seen) = done seen f
 viewTraf f (trafStep.Bad x) = bad x (left f)
 
 -- whether a `traf` has had its `tfdt`
-unfoldable pub timedTrack : Track → Bool
+unfoldable pub timedTrack : TrafPhase → Bool
 timedTrack track.Fresh = false
 timedTrack (track.Headed r) = false
 timedTrack track.Timed = true
 
 -- what a `traf` lacks, shown beside a refusal at its last byte
-abbrev pub besideTraf : Span → Track → ℕ → List Refusal
+abbrev pub besideTraf : Span → TrafPhase → ℕ → List Refusal
 besideTraf span t n = pick (eqb n (span .end)) (lacking (span .pos) t) []

@@ -10,10 +10,10 @@ use machine::Header;
 use machine::Refusal;
 use state::Seen;
 use state::Span;
-use state::Track;
 use state::TrafBody;
 use state::TrafBoxes;
 use state::TrafPart;
+use state::TrafPhase;
 use state::TrafSo;
 ghost use Prim.Native.Nat.{ℕ, _+_, _<_, _≤_};
 ghost use mathlib.Core.Path.{_≡_};
@@ -91,7 +91,7 @@ fn rest_to(stop: u64, reference: bool, n: u64) -> BodyStep
 // The version of a `tfdt`, its byte the n-th: it says how long the box is.
 fn version_end(pos: u64, end: u64, v: u64, n: u64) -> BodyStep
     requires { ⌜ n ≤ limit ⌝ }
-    ensures { λ r. ⌜ ((id : ℕ) (t : Track) (f : Flow) → viewBody f r ≡ trafEnds id t (part.Version pos end) v f n) ⌝ }
+    ensures { λ r. ⌜ ((id : ℕ) (t : TrafPhase) (f : Flow) → viewBody f r ≡ trafEnds id t (part.Version pos end) v f n) ⌝ }
 {
     if 1 < v {
         return BodyStep::Bad(Refusal {
@@ -137,18 +137,18 @@ fn time_more(wide: bool) -> u64
     3
 }
 
-fn is_reference(t: Track) -> bool
+fn is_reference(t: TrafPhase) -> bool
     ensures { λ r. ⌜ r ≡ reference t ⌝ }
 {
     match t {
-        Track::Fresh => false,
-        Track::Headed { reference } => reference,
-        Track::Timed => false,
+        TrafPhase::Fresh => false,
+        TrafPhase::Headed { reference } => reference,
+        TrafPhase::Timed => false,
     }
 }
 
 // A number of a `tfhd` or a `tfdt` is read; `id` is the top index's reference ID.
-fn field_end(id: u64, t: Track, p: TrafPart, v: u64, n: u64) -> BodyStep
+fn field_end(id: u64, t: TrafPhase, p: TrafPart, v: u64, n: u64) -> BodyStep
     requires { ⌜ n ≤ limit ⌝ }
     ensures { λ r. ⌜ ((f : Flow) → viewBody f r ≡ trafEnds id t p v f n) ⌝ }
 {
@@ -180,7 +180,7 @@ fn field_end(id: u64, t: Track, p: TrafPart, v: u64, n: u64) -> BodyStep
 }
 
 // One byte of a number.
-fn field_byte(id: u64, t: Track, p: TrafPart, more: u64, acc: u64, n: u64, b: u8) -> BodyStep
+fn field_byte(id: u64, t: TrafPhase, p: TrafPart, more: u64, acc: u64, n: u64, b: u8) -> BodyStep
     requires { ⌜ n < limit ⌝ }
     requires { ⌜ Within (trafBodyBounds (body.Field p more acc)) ⌝ }
     ensures { λ r. ⌜ ((f : Flow) → viewBody f r ≡ stepTrafBody id t (body.Field p more acc) f n b) ⌝ }
@@ -197,7 +197,7 @@ fn field_byte(id: u64, t: Track, p: TrafPart, more: u64, acc: u64, n: u64, b: u8
 }
 
 // One byte of the body of a box.
-fn body_byte(id: u64, t: Track, s: TrafBody, n: u64, b: u8) -> BodyStep
+fn body_byte(id: u64, t: TrafPhase, s: TrafBody, n: u64, b: u8) -> BodyStep
     requires { ⌜ n < limit ⌝ }
     requires { ⌜ Within (trafBodyBounds s) ⌝ }
     ensures { λ r. ⌜ ((f : Flow) → viewBody f r ≡ stepTrafBody id t s f n b) ⌝ }
@@ -235,23 +235,23 @@ fn body_begin(h: Header, n: u64) -> BodyStep
     skip_to(end, n)
 }
 
-fn may_head(t: Track) -> bool
+fn may_head(t: TrafPhase) -> bool
     ensures { λ r. ⌜ r ≡ fresh t ⌝ }
 {
     match t {
-        Track::Fresh => true,
-        Track::Headed { reference: _ } => false,
-        Track::Timed => false,
+        TrafPhase::Fresh => true,
+        TrafPhase::Headed { reference: _ } => false,
+        TrafPhase::Timed => false,
     }
 }
 
-fn may_time(t: Track) -> bool
+fn may_time(t: TrafPhase) -> bool
     ensures { λ r. ⌜ r ≡ headedTrack t ⌝ }
 {
     match t {
-        Track::Fresh => false,
-        Track::Headed { reference: _ } => true,
-        Track::Timed => false,
+        TrafPhase::Fresh => false,
+        TrafPhase::Headed { reference: _ } => true,
+        TrafPhase::Timed => false,
     }
 }
 
@@ -269,7 +269,7 @@ fn part_flaw(body: u64, may: bool) -> u64
 }
 
 // The lowest number of the faults that a header shows in a `traf`, or 0.
-fn traf_flaw(t: Track, h: Header) -> u64
+fn traf_flaw(t: TrafPhase, h: Header) -> u64
     requires { ⌜ h .head ≤ h .size ⌝ }
     ensures { λ r. ⌜ r ≡ flawOf (trafFaults t h) ⌝ }
 {
@@ -307,18 +307,18 @@ fn with_time(s: Seen, reference: bool, v: u64) -> Seen
     s
 }
 
-fn is_timed(t: Track) -> bool
+fn is_timed(t: TrafPhase) -> bool
     ensures { λ r. ⌜ r ≡ timedTrack t ⌝ }
 {
     match t {
-        Track::Fresh => false,
-        Track::Headed { reference: _ } => false,
-        Track::Timed => true,
+        TrafPhase::Fresh => false,
+        TrafPhase::Headed { reference: _ } => false,
+        TrafPhase::Timed => true,
     }
 }
 
 // A refusal at a byte inside the `traf`: where that byte is its last, what the `traf` lacks is shown beside it.
-fn worse(span: Span, t: Track, x: Refusal, n: u64) -> Refusal
+fn worse(span: Span, t: TrafPhase, x: Refusal, n: u64) -> Refusal
     ensures { λ r. ⌜ r ≡ lowest x (besideTraf span t n) ⌝ }
 {
     if n != span.end {
@@ -382,7 +382,7 @@ fn time_end(span: Span, so: TrafSo, reference: bool, pos: u64, v: u64, n: u64) -
     go_on(
         span,
         TrafSo {
-            track: Track::Timed,
+            track: TrafPhase::Timed,
             seen: later,
         },
         n,
@@ -397,7 +397,7 @@ fn box_end(span: Span, so: TrafSo, g: Given, n: u64) -> TrafStep
         Given::Nothing => go_on(span, so, n),
         Given::Headed(reference) => {
             let seen = so.seen;
-            let track = Track::Headed { reference };
+            let track = TrafPhase::Headed { reference };
             go_on(span, TrafSo { track, seen }, n)
         }
         Given::Timed(reference, pos, v) => time_end(span, so, reference, pos, v, n),
@@ -432,7 +432,7 @@ fn after_body(span: Span, so: TrafSo, r: BodyStep, n: u64) -> TrafStep
 }
 
 // The lowest number of all faults that the header of a box shows, or 0.
-fn box_flaw(end: u64, t: Track, h: Header) -> u64
+fn box_flaw(end: u64, t: TrafPhase, h: Header) -> u64
     ensures { λ r. ⌜ r ≡ flawOf (sizeFaults end h ++ trafFaults t h) ⌝ }
 {
     let flaw = size_flaw(end, h);
@@ -498,7 +498,7 @@ pub fn traf_begin(span: Span, seen: Seen, n: u64) -> TrafStep
     go_on(
         span,
         TrafSo {
-            track: Track::Fresh,
+            track: TrafPhase::Fresh,
             seen,
         },
         n,

@@ -7,7 +7,7 @@ use native.Mathlib.Omega.{arith}
 use Rattle.state.specs.Calls.{Finished, feedOf}
 use Rattle.state.specs.declared.State.{State}
 use Rattle.cases_trial.specs.Ends.{endOf}
-use Rattle.state.specs.Parts.{Held, held}
+use Rattle.state.specs.Cutting.{Held, held}
 use Rattle.cases_cuttings.specs.Readings.{fedPieces, Answer, cutFed, endIn}
 use Rattle.cases_cuttings.proofs.Pieces.{first-held, first-answered, rest-held, rest-answered, none-held, none-answered}
 use borrow.Author.Needs.{needs}

@@ -1,4 +1,4 @@
--- `index::index_byte` meets its contract, by those of `field_byte`, `byte_place`, `spelled`, `entry_end` and `next_entry`, and by the laws of
+-- `index::index_byte` meets its contract, by those of `field_byte`, `byte_place`, `spelled`, `entry_end` and `entry_on`, and by the laws of
 -- `Numbers` and `Steps`.
 use mathlib.Core.Path.{_∙_}
 use native.Mathlib.Omega.{arith}
@@ -71,7 +71,7 @@ returns-3 c =
     let at-byte-place = spelt .before in
     let arm = at-byte-place .before .before in
     λ leaves last table.
-    rw (c .next-entry .ensures) (entry-on _ _ _ _ _ _ _ _ _ _ _ (arm .s2 .given .1) (spelt .spelled .ensures) (rw (at-byte-place .byte-place .ensures)) (test .if1 .left))
+    rw (c .entry-on .ensures) (entry-on _ _ _ _ _ _ _ _ _ _ _ (arm .s2 .given .1) (spelt .spelled .ensures) (rw (at-byte-place .byte-place .ensures)) (test .if1 .left))
 
 pub index-byte-spec : {M : Type 1} → statement M
 index-byte-spec =

@@ -1,4 +1,4 @@
--- `leaf::after_leaf_body` meets its contract, by those of `leaf_after`, `leaf_on` and `worse_in_leaf`, and by the definition of `lift`.
+-- `leaf::after_leaf_body` meets its contract, by those of `leaf_now`, `leaf_on` and `worse_in_leaf`, and by the definition of `lift`.
 use Rattle.machine.specs.Run.{lift}
 use borrow.Author.Needs.{needs}
 use Rattle.leaf.proofs.after_leaf_body.Statement.{statement}
@@ -10,7 +10,7 @@ returns c = λ id f e. rw (c .before .r .given .1)
 
 returns-2 : tie.Need-returns-2
 unfolding lift
-returns-2 c = λ id f e. rw (c .before .before .before .r2 .given .1, ← c .before .leaf-after .ensures) (c .leaf-on .ensures id f e)
+returns-2 c = λ id f e. rw (c .before .before .before .r2 .given .1, ← c .before .leaf-now .ensures) (c .leaf-on .ensures id f e)
 
 returns-3 : tie.Need-returns-3
 unfolding lift

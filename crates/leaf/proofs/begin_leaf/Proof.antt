@@ -1,5 +1,4 @@
--- `leaf::begin_leaf` meets its contract, by those of `moof_on`, `lift_moof` and `skip_leaf`, by the laws `pick-yes` and `pick-no`, and by the
--- definition of `beginLeaf`.
+-- `leaf::begin_leaf` meets its contract, by those of `moof_on`, `lift_moof` and `skip_leaf`, and by the definition of `beginLeaf`.
 use borrow.Author.Tests.{eq-eqb, ne-eqb}
 use Rattle.state.specs.Leaf.{beginLeaf}
 use borrow.Author.Needs.{needs}

@@ -1,5 +1,4 @@
--- `leaf::begin_moof` meets its contract, by those of `traf_begin`, `lift_traf` and `skip_moof`, by the laws `pick-yes` and `pick-no`, and by the
--- definition of `beginMoof`.
+-- `leaf::begin_moof` meets its contract, by those of `traf_begin`, `lift_traf` and `skip_moof`, and by the definition of `beginMoof`.
 use borrow.Author.Tests.{eq-eqb, ne-eqb}
 use Rattle.state.specs.Leaf.{beginMoof}
 use borrow.Author.Needs.{needs}

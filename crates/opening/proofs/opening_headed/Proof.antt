@@ -5,7 +5,7 @@ use borrow.Author.Needs.{needs}
 use Rattle.segment.specs.Constants.{limit}
 use Rattle.machine.specs.Faults.{lowest}
 use Rattle.machine.specs.Run.{lift}
-use Rattle.state.specs.Opening.{openingBox}
+use Rattle.state.specs.Opening.{openingKind}
 use Rattle.header.proofs.Flaws.{flawless}
 use Rattle.header.proofs.Lists.{headed-bad, headed-good}
 use Rattle.opening.proofs.Flaws.{opening-placed}
@@ -16,7 +16,7 @@ returns : tie.Need-returns
 unfolding lift lowest
 returns c =
     let a = c .before .before .args in
-    λ brand f. rw (headed-bad (openingBox brand (a .branded)) (a .h) f (a .m) _ (opening-placed (a .branded) (a .h)) (c .before .opening-flaw .ensures) (c .if1 .taken))
+    λ brand f. rw (headed-bad (openingKind brand (a .branded)) (a .h) f (a .m) _ (opening-placed (a .branded) (a .h)) (c .before .opening-flaw .ensures) (c .if1 .taken))
 
 opening-begin-requires : tie.Need-opening-begin-requires
 opening-begin-requires c κs =
@@ -27,7 +27,7 @@ returns-2 : tie.Need-returns-2
 returns-2 c =
     let test = c .before in
     let a = test .before .before .args in
-    λ brand f. rw (headed-good (openingBox brand (a .branded)) (a .h) f (a .m) _ (opening-placed (a .branded) (a .h)) (test .before .opening-flaw .ensures) (test .if1 .left))
+    λ brand f. rw (headed-good (openingKind brand (a .branded)) (a .h) f (a .m) _ (opening-placed (a .branded) (a .h)) (test .before .opening-flaw .ensures) (test .if1 .left))
     (c .opening-begin .ensures brand f)
 
 pub opening-headed-spec : {M : Type 1} → statement M

@@ -4,8 +4,8 @@ use Prim.Native.Nat.{ℕ, suc, _*_}
 use mathlib.Core.Path.{ap, _∙_}
 use mathlib.Core.List.{[], _∷_}
 use native.Mathlib.Omega.{arith}
-use Rattle.segment.specs.Constants.{mostEntries, typeBit, wordLimit}
-use Rattle.state.specs.Ranges.{atMost, within}
+use Rattle.segment.specs.Constants.{mostEntries, typeBit}
+use Rattle.state.specs.Ranges.{atMost, within, wordLimit}
 use Rattle.range.proofs.Joined.{first-holds, first-fails, joined, sizes-read-low, durations-read-low}
 use borrow.Author.Needs.{needs}
 use Rattle.range.proofs.sums_fit.Statement.{statement}

@@ -3,7 +3,7 @@
 use mathlib.Core.Path.{sym, _∙_}
 use native.Mathlib.Omega.{arith}
 use Rattle.machine.specs.Run.{lift}
-use Rattle.state.specs.Traf.{trafBox}
+use Rattle.state.specs.Traf.{trafKind}
 use Rattle.header.proofs.Flaws.{flawless}
 use Rattle.header.proofs.Lists.{headed-bad, headed-good}
 use Rattle.traf.proofs.Laws.{box-placed}
@@ -19,7 +19,7 @@ returns c =
     let a = flawed .before .args in
     λ id f. rw (
       c .worse .ensures,
-      headed-bad (trafBox id (a .span .end) (a .so)) (a .h) f (a .n) _ (box-placed (a .so .track) (a .h) (a .span .end)) (flawed .box-flaw .ensures) (test .if1 .taken),
+      headed-bad (trafKind id (a .span .end) (a .so)) (a .h) f (a .n) _ (box-placed (a .so .track) (a .h) (a .span .end)) (flawed .box-flaw .ensures) (test .if1 .taken),
     )
 
 body-begin-requires : tie.Need-body-begin-requires
@@ -33,7 +33,7 @@ returns-2 c =
     let flawed = test .before in
     let a = flawed .before .args in
     λ id f. rw (
-      headed-good (trafBox id (a .span .end) (a .so)) (a .h) f (a .n) _ (box-placed (a .so .track) (a .h) (a .span .end)) (flawed .box-flaw .ensures) (test .if1 .left),
+      headed-good (trafKind id (a .span .end) (a .so)) (a .h) f (a .n) _ (box-placed (a .so .track) (a .h) (a .span .end)) (flawed .box-flaw .ensures) (test .if1 .left),
       ← c .before .body-begin .ensures f,
     )
     (c .after-body .ensures id f)

@@ -7,7 +7,7 @@ use Rattle.machine.specs.Faults.{shows}
 use Rattle.machine.specs.Lists.{goOn}
 use Rattle.state.specs.Traf.{timed, trafNow, fallFaults, trafNext, trafBoxes, wrapTraf}
 use Rattle.state.specs.declared.Seen.{Seen}
-use Rattle.state.specs.declared.Track.the-variants as track
+use Rattle.state.specs.declared.TrafPhase.the-variants as track
 use Rattle.traf.proofs.Laws.{falling}
 use borrow.Author.Needs.{needs}
 use Rattle.traf.proofs.time_end.Statement.{statement}

@@ -1,7 +1,7 @@
 -- `cases_trial::alike::same_left` meets its contract: the tests of the parts, joined.
 use mathlib.Core.Path.{_≡_, refl, _∙_}
 use mathlib.Core.Bool.{true}
-use Rattle.cases_trial.specs.declared.alike.Left.{Left}
+use Rattle.cases_trial.specs.declared.alike.Ending.{Ending}
 use mathlib.Core.Logic.{_↔_, ⊎-elim, Iff·trans}
 use borrow.Author.Tests.{eq-eqb, ne-eqb}
 use Rattle.cases_data.proofs.Alike.{both-taken, both-left, equal}
@@ -17,10 +17,10 @@ use Rattle.cases_trial.proofs.alike.same_top.Reads as same-top-reads
 -- where four tests are joined: what they decide
 module _
     (c : lts.Joined3 (same-refusal-reads.Asked, same-refusal-reads.Learnt, same-top-reads.Asked, same-top-reads.Learnt) reads.Pre reads.Post) where
-  abbrev a : Left
+  abbrev a : Ending
   a = c .before .before .before .before .before .before .before .before .before .args .a
 
-  abbrev b : Left
+  abbrev b : Ending
   b = c .before .before .before .before .before .before .before .before .before .args .b
 
   two : (c .before .before .if1 .if2 ≡ true) ↔ ((a .outcome ≡ b .outcome) × (a .count ≡ b .count))
