@@ -1,0 +1,83 @@
+// Fields and box headers of a whole segment, or of a piece of one: what the walks by structure call.
+ghost use mathlib.Core.Path.{_≡_};
+ghost use mathlib.Core.Bool.{true};
+ghost use Prim.Native.Nat.{_+_, _≤_};
+ghost use lib.ListN.{length};
+ghost use Rattle.machine.specs.declared.Header.{Header};
+ghost use Rattle.fields.specs.Answers.{someWidth, fieldAt, Small, headAt, farthest};
+ghost use Rattle.fields.specs.declared.HeadRead.the-variants as head;
+use fields::FieldRead;
+use fields::HeadRead;
+use fields::field_at;
+use fields::head_at;
+use machine::Header;
+
+// How many bytes a header with a size of 32 bits has.
+const SHORT: usize = 8;
+
+// The field of so many bytes at a position.
+pub fn read_field(bytes: &[u8], at: usize, width: usize) -> FieldRead
+    requires { ⌜ (someWidth width ≡ true) × (at ≤ farthest) ⌝ }
+    ensures { λ r. ⌜ (r ≡ fieldAt (now (bytes .entry)) at width) × Small width r ⌝ }
+{
+    field_at(bytes, at, width)
+}
+
+// The header of the box at a position, whose container ends at `end`.
+pub fn read_head(bytes: &[u8], at: usize, end: usize) -> HeadRead
+    requires { ⌜ at + 16 ≤ farthest ⌝ }
+    ensures { λ r. ⌜ r ≡ headAt (now (bytes .entry)) at end ⌝ }
+{
+    head_at(bytes, at, end)
+}
+
+fn lesser(a: usize, b: usize) -> usize
+    ensures { λ r. ⌜ (r ≤ a) × (r ≤ b) ⌝ }
+{
+    if a < b {
+        return a;
+    }
+    b
+}
+
+// A header of 8 bytes that are there, and that shows no fault.
+fn short_head(bytes: &[u8], at: usize, end: usize) -> HeadRead
+    requires { ⌜ at + 16 ≤ farthest ⌝ }
+    ensures { λ r. ⌜ ((h : Header) → r ≡ head.Read h → r ≡ headAt (now (bytes .entry)) at end) ⌝ }
+{
+    if lesser(end, bytes.len()) < at + SHORT {
+        return HeadRead::Ended;
+    }
+    let first = read_field(bytes, at, 4);
+    let FieldRead::Read(size, next) = first else {
+        return HeadRead::Ended;
+    };
+    if size < SHORT as u64 {
+        return HeadRead::Ended;
+    }
+    if ((end - at) as u64) < size {
+        return HeadRead::Ended;
+    }
+    let second = read_field(bytes, next, 4);
+    let FieldRead::Read(kind, _) = second else {
+        return HeadRead::Ended;
+    };
+    HeadRead::Read(Header {
+        pos: at as u64,
+        kind,
+        size,
+        head: SHORT as u64,
+    })
+}
+
+// The same as `read_head`, where headers are many: nearly all of them have 8 bytes and show no fault, and are read at once.
+pub fn quick_head(bytes: &[u8], at: usize, end: usize) -> HeadRead
+    requires { ⌜ at + 16 ≤ farthest ⌝ }
+    ensures { λ r. ⌜ r ≡ headAt (now (bytes .entry)) at end ⌝ }
+{
+    let short = short_head(bytes, at, end);
+    let HeadRead::Read(_) = short else {
+        return read_head(bytes, at, end);
+    };
+    short
+}
