@@ -52,9 +52,9 @@ use Rattle.descent.specs.Sidx.{sidxD}
 use Rattle.descent.specs.Opening.{skipTo}
 use Rattle.descent.specs.Leaf.{leafD}
 use Rattle.descent.specs.Whole.{gapD, UnderD, innerD, slotD, readBackD, entryPartD, entryPartsD, underD, materialD, segmentD}
-use Rattle.demands.proofs.SidxRun.{sidx-run}
-use Rattle.demands.proofs.OpeningRun.{opening-run}
-use Rattle.demands.proofs.LeafRun.{leaf-run}
+use Rattle.law_d.proofs.SidxRun.{sidx-run}
+use Rattle.law_d.proofs.OpeningRun.{opening-run}
+use Rattle.law_d.proofs.LeafRun.{leaf-run}
 
 -- what follows an answer of the segment's machine
 abbrev pub S : ℕ → List ℕ → Sub Stage Top Flow Left → Res Top Flow Left
