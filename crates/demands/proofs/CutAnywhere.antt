@@ -29,8 +29,8 @@ use Rattle.state.proofs.Ranges.{start-in-range, run-kept}
 use Rattle.state.proofs.Cuts.{feed-short, feed-inside, cutting}
 use Rattle.state.proofs.Kept.{finish-inside}
 use Rattle.descent.specs.Whole.{wholeD}
+use Rattle.law_d.proofs.LawD.{law-d}
 use Rattle.demands.specs.Demands.{Accepts, inParts}
-use Rattle.demands.proofs.LawD.{law-d}
 use Rattle.demands.proofs.Exact.{accepted}
 
 -- finish called after a feed, whatever it answered, is what follows at the first refusal: a refusal is kept

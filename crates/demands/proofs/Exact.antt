@@ -40,11 +40,11 @@ use Rattle.covering.specs.Records.{recordOf, recordsOf, NoLeafCovers}
 use Rattle.covering.specs.Lookup.{lookIn, lookupOf}
 use Rattle.covering.proofs.Listed.{lookup-refuses}
 use Rattle.covering.proofs.TheLeaf.{segment-found, segment-before, segment-past, records-length, lookup-listed}
+use Rattle.law_d.proofs.LawD.{law-d}
 use Rattle.demands.specs.Verdict.{Verdict, wrong, full, fine, told, Meets, Listing, seat, verdictBy, verdictOf}
 use Rattle.demands.specs.Demands.{stated, Accepts, BeginsWith}
 use Rattle.basics.proofs.Put.{put-between}
 use Rattle.demands.proofs.Seats.{seat-fits, seat-full}
-use Rattle.demands.proofs.LawD.{law-d}
 use Rattle.demands.proofs.LawT.{law-t}
 use Rattle.demands.proofs.Stated.{read-stated}
 

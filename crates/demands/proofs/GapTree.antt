@@ -16,14 +16,14 @@ use Rattle.machine.specs.Run.{Res, okay}
 use Rattle.machine.specs.Heads.{boxEnd}
 use Rattle.machine.specs.Lists.{Next, boxD}
 use Rattle.state.specs.Flow.{Flow, Left}
-use Rattle.machine.proofs.Readings.{Says, says-okay, SaysNext, says-boxes}
+use Rattle.machine.proofs.Readings.{Says, Anyhow, each-any, says-okay, SaysNext, says-boxes}
 use Rattle.state.specs.Stages.{gapNext, gapKind}
 use Rattle.state.specs.Stages as stages
 use Rattle.descent.specs.Opening.{skipTo}
 use Rattle.descent.specs.Whole.{gapD}
 use Rattle.demands.specs.Told.{upon, clean}
 use Rattle.demands.specs.Walks.{gapWalk}
-use Rattle.demands.proofs.Upons.{Any, Anyhow, each-any, says-any}
+use Rattle.demands.proofs.Upons.{Any, says-any}
 use Rattle.demands.proofs.WalkTree.{gap-walk}
 use Rattle.demands.proofs.OpeningTree.{skip-body}
 use Rattle.demands.proofs.ListTree.{list-tree}

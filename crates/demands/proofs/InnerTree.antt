@@ -31,10 +31,10 @@ use Rattle.state.specs.Levels.{slotOf}
 use Rattle.state.specs.Stages.{innerKind, innerLevel}
 use Rattle.descent.specs.Sidx.{sidxD}
 use Rattle.descent.specs.Whole.{innerD, underD}
+use Rattle.law_d.proofs.SegmentRun.{too-deep}
 use Rattle.demands.specs.Told.{upon, clean, headLength, headerOf, indexFrom, entryPart, withEntries, suits}
 use Rattle.demands.specs.Verdict.{Verdict, judge, told, enlist, Meets}
 use Rattle.demands.proofs.Verdicts.{judge-after, judge-not, judge-told, told-then}
-use Rattle.demands.proofs.SegmentRun.{too-deep}
 use Rattle.demands.proofs.Shown.{kindOf, inner-shown}
 use Rattle.demands.proofs.HeadTree.{box-tree}
 use Rattle.demands.proofs.SidxTree.{suits-under, sidx-fitting, SidxFacts, sidx-facts}

@@ -37,10 +37,10 @@ use Rattle.state.specs.Stages.{follow, topOf, topLevel, stepStage}
 use Rattle.state.specs.Step.{pastMaterial, flow0}
 use Rattle.descent.specs.Opening.{openingD}
 use Rattle.descent.specs.Whole.{gapD, underD, materialD, segmentD, outcome, readD, wholeD}
+use Rattle.law_d.proofs.SegmentRun.{S, gap-consumed, top-run}
 use Rattle.demands.specs.Told.{indexFrom, entryPart, withEntries}
 use Rattle.demands.specs.Verdict.{Verdict, wrong, full, fine, judge, told, enlist, NotFine, Meets, Listing, seat, verdictBy, verdictOf}
 use Rattle.demands.proofs.Verdicts.{meets-equal, meets-trans, judge-after, judge-cong, judge-not, judge-told, told-then, told-cong, told-meets, told-not, enlist-not, pick-not}
-use Rattle.demands.proofs.SegmentRun.{S, gap-consumed, top-run}
 use Rattle.demands.proofs.Stored.{holds}
 use Rattle.basics.proofs.Put.{put-length}
 use Rattle.demands.proofs.SidxTree.{SidxFacts, sidx-facts}

@@ -26,7 +26,7 @@ use Rattle.machine.specs.Heads.{headD, sizeFaults}
 use Rattle.machine.specs.Lists.{boxD, boxesD}
 use Rattle.machine.specs.declared.Header.{Header}
 use Rattle.machine.proofs.Faults.{none-second, shows-none}
-use Rattle.machine.proofs.Readings.{Says, says-okay, says-either, says-box}
+use Rattle.machine.proofs.Readings.{Says, Anyhow, Never, each-any, says-okay, says-either, says-box}
 use Rattle.state.specs.declared.Span.{Span}
 use Rattle.state.specs.declared.Seen.{Seen}
 use Rattle.state.specs.declared.Slot.{Slot}
@@ -41,7 +41,7 @@ use Rattle.descent.specs.Opening.{skipTo}
 use Rattle.descent.specs.Leaf.{tfhdD, widthD, tfdtD, trafBodyD, trafD, moofBodyD, moofD, leafBodyD, leafD}
 use Rattle.demands.specs.Told.{upon, clean, climb, headLength, headerOf}
 use Rattle.demands.specs.Walks.{trafItem, trafWalk, moofItem, moofWalk, leafItem, leafWalk}
-use Rattle.demands.proofs.Upons.{upon-here, skip-tree, Never, Anyhow, each-any, clean-none, upon-after, upon-unless, clean-append, clean-shows}
+use Rattle.demands.proofs.Upons.{upon-here, skip-tree, clean-none, upon-after, upon-unless, clean-append, clean-shows}
 use Rattle.demands.proofs.HeadTree.{head-tree}
 use Rattle.demands.proofs.ListTree.{list-tree, start-tree}
 use Rattle.demands.proofs.WalkTree.{not-or, body-length, traf-faults, cut-fits, traf-walk, moof-walk, leaf-walk, first-seen}

@@ -1,8 +1,3 @@
-pub mod SidxRun
-pub mod OpeningRun
-pub mod LeafRun
-pub mod SegmentRun
-pub mod LawD
 pub mod Upons
 pub mod Verdicts
 pub mod Shown

@@ -25,7 +25,7 @@ use Rattle.machine.specs.Faults as faults
 use Rattle.machine.specs.Run.{Res, okay, fail, fieldD, plain}
 use Rattle.machine.specs.declared.Refusal.{Refusal}
 use Rattle.machine.proofs.Faults.{none-first, none-second, shows-none}
-use Rattle.machine.proofs.Readings.{Says, says-okay, says-unless, says-kept, says-field}
+use Rattle.machine.proofs.Readings.{Says, each-any, says-okay, says-unless, says-kept, says-field}
 use Rattle.state.specs.declared.Span.{Span}
 use Rattle.state.specs.declared.Top.{Top}
 use Rattle.state.specs.declared.Slot.{Slot}
@@ -40,7 +40,7 @@ use Rattle.state.specs.Sidx.{sidxVersionFaults, idFaults, scaleFaults, timeFaul
 use Rattle.state.specs.Sidx.{Place, topmost, under, partOf, wideMore, indexOf, entrySize, plusSize, plusDuration, nextEntry, wordPlace, numberPlace, keepByte}
 use Rattle.descent.specs.Sidx.{closeD, entryD, entriesD, countedD, countD, reservedD, offsetD, timeD, scaleD, idD, flagsD, versionD, sidxD}
 use Rattle.demands.specs.Told.{upon, clean, indexFrom, entryPart, withEntries, suits}
-use Rattle.demands.proofs.Upons.{each-any, upon-here, upon-unless, upon-okay, clean-append, clean-shows}
+use Rattle.demands.proofs.Upons.{upon-here, upon-unless, upon-okay, clean-append, clean-shows}
 use Rattle.demands.proofs.Stored.{entryHere, entry-here}
 use Rattle.basics.proofs.Put.{put-more}
 

@@ -21,10 +21,10 @@ use Rattle.state.specs.Stages.{topOf, topLevel, stepStage}
 use Rattle.state.specs.Step.{stage0, flow0}
 use Rattle.descent.specs.Opening.{openingD}
 use Rattle.descent.specs.Whole.{gapD, underD, materialD, segmentD, readD}
+use Rattle.law_d.proofs.SegmentRun.{segment-run}
 use Rattle.demands.specs.Told.{upon, indexFrom}
 use Rattle.demands.specs.Demands.{stated}
 use Rattle.demands.proofs.Upons.{upon-after, upon-some}
-use Rattle.demands.proofs.SegmentRun.{segment-run}
 use Rattle.demands.proofs.OpeningTree.{atTop, opening-tree}
 
 -- what a reading gives at its end

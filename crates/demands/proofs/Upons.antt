@@ -14,11 +14,10 @@ use Rattle.machine.specs.Faults.{shows, unless}
 use Rattle.machine.specs.Run.{Res, okay, fail, cut, either, after, fieldD, plain}
 use Rattle.machine.specs.declared.Refusal.{Refusal}
 use Rattle.machine.proofs.Fields.{field-take, field-short, skip-whole}
+use Rattle.machine.proofs.Readings.{Says, Anyhow}
 use Rattle.state.specs.Flow.{Flow, Left, left}
 use Rattle.descent.specs.Opening.{skipTo}
 use Rattle.demands.specs.Told.{upon, clean}
-use Rattle.machine.proofs.Kept.{Each}
-use Rattle.machine.proofs.Readings.{Says}
 
 module _ {R Q X : Type 0} where
   -- a reading after another
@@ -107,20 +106,9 @@ skip-tree r k stop f n xs ys e =
     let q : n + (stop - n) ≡ stop = omega arith in
     rw (skip-whole left (stop - n) f n xs ys (omega arith), q)
 
--- Nothing is known of a result, or of a refusal; and a result that there is not.
+-- Nothing is known of a result.
 abbrev pub Any : {R : Type 0} → R → Flow → ℕ → List ℕ → Type 0
 Any r f n bs = Unit {0}
-
-abbrev pub Anyhow : Refusal → Left → ℕ → Type 0
-Anyhow x l n = Unit {0}
-
-abbrev pub Never : {R : Type 0} → R → Flow → ℕ → List ℕ → Type 0
-Never r f n bs = ⊥
-
-pub each-any : (xs : List Refusal) → Each (λ x. Unit {0}) xs
-unfolding Each
-each-any [] = tt
-each-any (x ∷ xs) = (tt, each-any xs)
 
 pub says-any : {R : Type 0} (r : Res R Flow Left) → Says Any Anyhow r
 says-any (okay q f n bs) = tt

@@ -1,1 +1,1 @@
-// The demands as theorems: the byte definition, the descent and the tree say the same.
+// Law T, that the descent and the tree say the same; and the demands as theorems.

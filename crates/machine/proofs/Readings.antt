@@ -21,6 +21,18 @@ Says K W (okay r f n bs) = K r f n bs
 Says K W (fail x l n) = W x l n
 Says K W (cut l n) = Unit {0}
 
+-- nothing is known of a refusal; a result that there is not
+abbrev pub Anyhow : {L : Type 0} → Refusal → L → ℕ → Type 0
+Anyhow x l n = Unit {0}
+
+abbrev pub Never : {R F : Type 0} → R → F → ℕ → List ℕ → Type 0
+Never r f n bs = ⊥
+
+pub each-any : (xs : List Refusal) → Each (λ x. Unit {0}) xs
+unfolding Each
+each-any [] = tt
+each-any (x ∷ xs) = (tt, each-any xs)
+
 -- a fault shown where the test holds
 pub each-if : (G : Refusal → Type 0) (t : Bool) (n p : ℕ) → (t ≡ true → G (refusal n p)) → Each G (shows t n p)
 unfolding shows Each

@@ -29,7 +29,7 @@ use Rattle.state.specs.Rows.{is}
 use Rattle.state.specs.Sidx.{topmost, sidxStart, stepSidx}
 use Rattle.state.specs.Opening.{OpeningGave, passed, indexed, spanOf, unlisted, brandsFrom, stypEnds, beginOpening, stepOpeningBody, opening, wrapOpening, stepOpening}
 use Rattle.descent.specs.Opening.{brandsD, stypD, openingBodyD, openingD}
-use Rattle.demands.proofs.SidxRun.{sidx-run}
+use Rattle.law_d.proofs.SidxRun.{sidx-run}
 
 module _ (brand : ℕ) where
   abbrev O : ℕ → List ℕ → Sub OpeningBody OpeningGave Flow Left → Res OpeningGave Flow Left

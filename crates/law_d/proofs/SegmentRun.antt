@@ -22,6 +22,7 @@ use Rattle.machine.proofs.Faults.{unless-both, none-first, none-second, shows-n
 use Rattle.machine.proofs.Runs.{inside, after-cong, after-assoc, after-okay, consumed-run}
 use Rattle.machine.proofs.Fields.{skip-run}
 use Rattle.machine.proofs.Lists.{box-run, boxes-run}
+use Rattle.machine.proofs.Readings.{Anyhow, Never, each-any, says-okay, says-box}
 use Rattle.state.specs.declared.Seen.{Seen}
 use Rattle.state.specs.declared.Top.{Top}
 use Rattle.state.specs.declared.Level.{Level}
@@ -51,11 +52,9 @@ use Rattle.descent.specs.Sidx.{sidxD}
 use Rattle.descent.specs.Opening.{skipTo}
 use Rattle.descent.specs.Leaf.{leafD}
 use Rattle.descent.specs.Whole.{gapD, UnderD, innerD, slotD, readBackD, entryPartD, entryPartsD, underD, materialD, segmentD}
-use Rattle.machine.proofs.Readings.{says-okay, says-box}
-use Rattle.demands.proofs.Upons.{Never, Anyhow, each-any}
-use Rattle.demands.proofs.SidxRun.{sidx-run}
-use Rattle.demands.proofs.OpeningRun.{opening-run}
-use Rattle.demands.proofs.LeafRun.{leaf-run}
+use Rattle.law_d.proofs.SidxRun.{sidx-run}
+use Rattle.law_d.proofs.OpeningRun.{opening-run}
+use Rattle.law_d.proofs.LeafRun.{leaf-run}
 
 -- what follows an answer of the segment's machine
 abbrev pub S : ℕ → List ℕ → Sub Stage Top Flow Left → Res Top Flow Left

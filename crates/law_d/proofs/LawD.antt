@@ -22,7 +22,6 @@ use Rattle.state.specs.declared.Top.{Top}
 use Rattle.state.specs.declared.Stage.{Stage}
 use Rattle.state.specs.declared.State.the-variants as state
 use Rattle.state.specs.declared.FeedAnswer.{FeedAnswer}
-use Rattle.state.specs.declared.FeedAnswer.the-variants as feeds
 use Rattle.state.specs.declared.FinishAnswer.{FinishAnswer}
 use Rattle.state.specs.declared.FinishAnswer.the-variants as finishes
 use Rattle.state.specs.Flow.{Flow, Left, left, workBytes}
@@ -36,7 +35,7 @@ use Rattle.state.proofs.Kept.{finish-inside}
 use Rattle.state.proofs.Ranges.{start-in-range, run-kept}
 use Rattle.state.proofs.WithinLimit.{InStage, stage-within, limit-alone, start-within}
 use Rattle.descent.specs.Whole.{outcome, readD, wholeD}
-use Rattle.demands.proofs.SegmentRun.{segment-run}
+use Rattle.law_d.proofs.SegmentRun.{segment-run}
 
 -- what is past the limit
 abbrev over : Refusal
