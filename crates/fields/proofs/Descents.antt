@@ -11,14 +11,14 @@ use lib.Seq.{drop-cons, drop-drop}
 use borrow.Author.Tests.{ltb-true, ltb-false, lt-ltb, le-ltb, lt-leb, le-leb}
 use Rattle.basics.specs.Choose.{pick}
 use Rattle.basics.proofs.Picks.{lt-or-ge, pick-both, pick-with, pick-yes, pick-no}
-use Rattle.machine.specs.Faults.{refusal, shows, lowest, unless}
+use Rattle.machine.specs.Faults.{refusal, shows, unless}
 use Rattle.machine.specs.Run.{Res, okay, fail, cut, either, after, fieldD, plain, skipD}
 use Rattle.machine.specs.Heads.{underEight, underSixteen, sizeFaults, header, sizedD, headD}
 use Rattle.machine.specs.Lists.{Kind, boxD, faultsOf}
 use Rattle.machine.specs.declared.Header.{Header}
 use Rattle.machine.specs.declared.Refusal.{Refusal}
 use Rattle.machine.proofs.Fields.{field-take, field-short, skip-take, skip-short}
-use Rattle.machine.proofs.Lowest.{AtMostEach}
+use Rattle.machine.proofs.Lowest.{AtMostEach, lower-each, unless-one, unless-first}
 use Rattle.fields.specs.Answers.{numberAt, fieldAt, checkedAt, largeAt, headAt}
 use Rattle.fields.specs.Onward.{placed, ended, from, onField, onHead}
 use Rattle.fields.specs.declared.HeadRead.{HeadRead}
@@ -97,28 +97,6 @@ less-placed base a b = at (lt-or-ge a b)
     at : (a < b) ⊎ (b ≤ a) → ltb (base + a) (base + b) ≡ ltb a b
     at (inl h) = lt-ltb (base + a) (base + b) (omega arith) ∙ sym (lt-ltb a b h)
     at (inr h) = le-ltb (base + a) (base + b) (omega arith) ∙ sym (le-ltb a b h)
-
--- a fault before others none of which has a lower number
-lowest-first : (x : Refusal) (ys : List Refusal) → AtMostEach (x .number) ys → lowest x ys ≡ x
-unfolding lowest
-lowest-first x [] h = refl
-lowest-first x (y ∷ ys) h = pick-no (ltb (y .number) (x .number)) _ _ (le-ltb _ _ (h .0)) ∙ lowest-first x ys (h .1)
-
-module _ {X : Type 0} (n p : ℕ) (ys : List Refusal) (worse : Refusal → X) (x : X) where
-  pub unless-first : (t : Bool) → AtMostEach n ys → unless (shows t n p ++ ys) worse x ≡ pick t (worse (refusal n p)) (unless ys worse x)
-  unfolding unless shows pick
-  unless-first true h = ap worse (lowest-first (refusal n p) ys h)
-  unless-first false h = refl
-
-unless-one : {X : Type 0} (t : Bool) (n p : ℕ) (worse : Refusal → X) (x : X) → unless (shows t n p) worse x ≡ pick t (worse (refusal n p)) x
-unfolding unless shows pick lowest
-unless-one true n p worse x = refl
-unless-one false n p worse x = refl
-
--- numbers that are high enough are so for a lower bound too
-lower-each : (m n : ℕ) (ys : List Refusal) → m ≤ n → AtMostEach n ys → AtMostEach m ys
-lower-each m n [] h g = tt
-lower-each m n (y ∷ ys) h g = (omega (arith, g .0), lower-each m n ys h (g .1))
 
 -- 5 stands before others from 5 on
 higher : (t : Bool) (p : ℕ) (ys : List Refusal) → AtMostEach 5 ys → AtMostEach 4 (shows t 5 p ++ ys)
