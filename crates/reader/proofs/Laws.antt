@@ -1,13 +1,13 @@
 -- A header of 8 bytes that are there and that shows no fault, from its two fields.
 use Prim.Native.Nat.{ℕ, _+_, _≤_, _<_}
-use mathlib.Core.Path.{_≡_, sym}
+use mathlib.Core.Path.{_≡_}
 use mathlib.Core.List.{List}
 use native.Mathlib.Omega.{arith}
 use lib.ListN.{length}
 use borrow.Author.Tests.{lt-leb, le-ltb, ne-eqb}
 use Rattle.basics.specs.Choose.{pick}
 use Rattle.machine.specs.Heads.{header}
-use Rattle.fields.specs.Answers.{numberAt, fieldAt, checkedAt, headAt}
+use Rattle.fields.specs.Answers.{fieldAt, checkedAt, headAt}
 use Rattle.fields.specs.declared.FieldRead.the-variants as field
 use Rattle.fields.specs.declared.HeadRead.{HeadRead}
 use Rattle.fields.specs.declared.HeadRead.the-variants as head

@@ -8,19 +8,43 @@ ghost use Rattle.fields.specs.Answers.{someWidth, fieldAt, Small, headAt, farth
 ghost use Rattle.fields.specs.declared.HeadRead.the-variants as head;
 use fields::FieldRead;
 use fields::HeadRead;
-use fields::field_at;
-use fields::head_at;
 use machine::Header;
 
 // How many bytes a header with a size of 32 bits has.
 const SHORT: usize = 8;
+
+// The lent bytes and a position in them.
+struct Reader<'a> {
+    bytes: &'a [u8],
+    at: usize,
+}
+
+fn reader_at<'a>(bytes: &'a [u8], at: usize) -> Reader<'a>
+    ensures { λ r. ⌜ (r .bytes ≡ bytes .entry) × (r .at ≡ at) ⌝ }
+{
+    Reader { bytes, at }
+}
+
+fn next_field<'a>(r: Reader<'a>, width: usize) -> FieldRead
+    requires { ⌜ (someWidth width ≡ true) × (r .at ≤ farthest) ⌝ }
+    ensures { λ f. ⌜ (f ≡ fieldAt (now (r .entry .bytes)) (r .entry .at) width) × Small width f ⌝ }
+{
+    fields::field_at(r.bytes, r.at, width)
+}
+
+fn next_head<'a>(r: Reader<'a>, end: usize) -> HeadRead
+    requires { ⌜ r .at + 16 ≤ farthest ⌝ }
+    ensures { λ h. ⌜ h ≡ headAt (now (r .entry .bytes)) (r .entry .at) end ⌝ }
+{
+    fields::head_at(r.bytes, r.at, end)
+}
 
 // The field of so many bytes at a position.
 pub fn read_field(bytes: &[u8], at: usize, width: usize) -> FieldRead
     requires { ⌜ (someWidth width ≡ true) × (at ≤ farthest) ⌝ }
     ensures { λ r. ⌜ (r ≡ fieldAt (now (bytes .entry)) at width) × Small width r ⌝ }
 {
-    field_at(bytes, at, width)
+    next_field(reader_at(bytes, at), width)
 }
 
 // The header of the box at a position, whose container ends at `end`.
@@ -28,7 +52,7 @@ pub fn read_head(bytes: &[u8], at: usize, end: usize) -> HeadRead
     requires { ⌜ at + 16 ≤ farthest ⌝ }
     ensures { λ r. ⌜ r ≡ headAt (now (bytes .entry)) at end ⌝ }
 {
-    head_at(bytes, at, end)
+    next_head(reader_at(bytes, at), end)
 }
 
 fn lesser(a: usize, b: usize) -> usize

@@ -46,8 +46,14 @@ returns-5 c =
     let size = kind .before in
     let there = size .before in
     let few = there .before in
-    rw (lt-leb _ _ (few .before .if1 .left), le-ltb _ _ (few .if2 .left), le-ltb _ _ (there .if3 .left), ← size .word-at .ensures .0, ne-eqb _ _ (one .if4 .left),
-    ← kind .word-at2 .ensures .0) (c .checked .ensures)
+    rw (
+      lt-leb _ _ (few .before .if1 .left),
+      le-ltb _ _ (few .if2 .left),
+      le-ltb _ _ (there .if3 .left),
+      ← size .word-at .ensures .0,
+      ne-eqb _ _ (one .if4 .left),
+      ← kind .word-at2 .ensures .0,
+    ) (c .checked .ensures)
 
 pub head-at-spec : {M : Type 1} → statement M
 head-at-spec =

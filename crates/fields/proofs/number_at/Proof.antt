@@ -24,7 +24,7 @@ returns-3 : tie.Need-returns-3
 returns-3 c = rw (c .before .if3 .taken) (c .word-at .ensures)
 
 long-at-requires : tie.Need-long-at-requires
-long-at-requires c κs = 
+long-at-requires c κs =
     let start = c .before .before .before .before in
     omega (arith, last-width (start .args .width) (start .pre .0) (c .before .before .if1 .left) (c .before .if2 .left) (c .if3 .left))
 

@@ -1,5 +1,5 @@
 -- `reader::short_head` meets its contract, by those of `lesser` and `read_field`, and by the law `short-law`.
-use Prim.Native.Nat.{ℕ, _+_, _≤_, _<_}
+use Prim.Native.Nat.{ℕ, _+_, _≤_}
 use mathlib.Core.Path.{_≡_, refl, sym, _∙_}
 use native.Mathlib.Omega.{arith}
 use denote.Ref.{now}
