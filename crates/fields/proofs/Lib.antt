@@ -1,3 +1,4 @@
 pub mod Width
 pub mod Answers
 pub mod Descents
+pub mod OneOutcome
