@@ -93,8 +93,10 @@ class Log:
 
     def in_line(self, file, place, said):
         """What the answer at a place of a list of answers is of. Of a search, its message tells; with a callee's lifetimes, or by
-        arithmetic, it is what a call or an operation asks; else it is what the function returns."""
+        arithmetic, it is what a call or an operation asks; else it is what the function returns. A walk by hand has no such list."""
         text = (self.folder / file).read_text(encoding="utf-8")
+        if ".spec" not in text:
+            return None
         at = sum(len(line) + 1 for line in text.split("\n")[: place[0] - 1]) + place[1] - 1
         depth, begin, answer = 0, 0, ""
         for i in range(text.rindex(".spec"), len(text)):

@@ -13,7 +13,8 @@ use machine::Header;
 // How many bytes a header with a size of 32 bits has.
 const SHORT: usize = 8;
 
-// The lent bytes and a position in them.
+// The lent bytes and a position in them. Its functions are thin and stay in this crate: each takes it apart and calls one on the
+// bytes and the position.
 struct Reader<'a> {
     bytes: &'a [u8],
     at: usize,
