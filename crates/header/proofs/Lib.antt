@@ -1,4 +1,3 @@
-pub mod Flaws
 pub mod Lists
 pub mod Steps
 pub mod OneOutcome

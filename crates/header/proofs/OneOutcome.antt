@@ -18,10 +18,6 @@ use Rattle.header.proofs.spelled.Kinds as spelled-kinds
 use Rattle.header.proofs.spelled.Reads as spelled-stated
 use Rattle.header.proofs.head_byte.Kinds as byte-kinds
 use Rattle.header.proofs.head_byte.Reads as byte-stated
-use Rattle.header.proofs.size_flaw.Kinds as size-kinds
-use Rattle.header.proofs.size_flaw.Reads as size-stated
-use Rattle.header.proofs.header_flaw.Kinds as header-kinds
-use Rattle.header.proofs.header_flaw.Reads as header-stated
 
 -- the answer that a machine's answer is a view of
 abbrev seenHead : Sub Head Header Flow Left → HeadStep
@@ -47,11 +43,3 @@ pub head-byte-once : Coincide 0 byte-kinds.ps byte-kinds.r byte-stated.Post
 head-byte-once = λ κs given r r' left left' p q.
     let f = flowOf 0 0 0 [] [] in
     (left-inverse-equal seenHead (seen-head f r) (seen-head f r') (p f ∙ sym (q f)), refl)
-
--- of one container's end and header: one number
-pub size-flaw-once : OneOutcome 0 size-kinds.ps size-kinds.r size-stated.Pre size-stated.Post
-size-flaw-once = record { asks-nothing = λ κs given. tt; outcomes-coincide = λ κs given r r' left left' p q. (p ∙ sym q, refl) }
-
--- of one container's end, header and other number: one number
-pub header-flaw-once : OneOutcome 0 header-kinds.ps header-kinds.r header-stated.Pre header-stated.Post
-header-flaw-once = record { asks-nothing = λ κs given. tt; outcomes-coincide = λ κs given r r' left left' p q. (p ∙ sym q, refl) }

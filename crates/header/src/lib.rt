@@ -1,28 +1,14 @@
-// The header of a box, one byte of it at a time, and what its size and the length of its body show once it is read.
+// The header of a box, one byte of it at a time.
 ghost use mathlib.Core.Path.{_≡_};
-ghost use mathlib.Core.List.{_++_};
-ghost use lib.Dec.{eqb};
 ghost use Prim.Native.Nat.{_+_, _*_, _<_, _≤_};
-ghost use Rattle.basics.specs.Choose.{pick};
 ghost use Rattle.segment.specs.Constants.{limit};
-ghost use Rattle.machine.specs.Heads.{sizeFaults, sized, stepHead};
+ghost use Rattle.machine.specs.Heads.{sized, stepHead};
 ghost use Rattle.state.specs.Flow.{Flow, left};
-ghost use Rattle.state.specs.Rows.{bodyLength, topLengths};
 ghost use Rattle.state.specs.Ranges.{Within, headBounds};
 ghost use Rattle.header.specs.Views.{viewHead, refusalHead};
-ghost use Rattle.header.specs.Flaws.{flawOf};
 use machine::Head;
 use machine::Header;
 use machine::Refusal;
-
-// The types of boxes at a segment's top level, as the numbers that their letters spell.
-pub const STYP: u64 = 1937013104;
-
-pub const SIDX: u64 = 1936286840;
-
-pub const MOOF: u64 = 1836019558;
-
-pub const MDAT: u64 = 1835295092;
 
 // How many bytes a header has: with a size of 32 bits, and with one of 64.
 const SHORT: u64 = 8;
@@ -184,70 +170,4 @@ pub fn head_byte(end: u64, h: Head, n: u64, b: u8) -> HeadStep
             acc,
         } => large_byte(end, pos, kind, more, acc, n, b),
     }
-}
-
-// The lowest number that a header's size shows, or 0. A 64-bit size may be any, so that no end is computed.
-pub fn size_flaw(end: u64, h: Header) -> u64
-    ensures { λ r. ⌜ r ≡ flawOf (sizeFaults end h) ⌝ }
-{
-    if h.size < h.head {
-        return 4;
-    }
-    if end < h.pos {
-        return 5;
-    }
-    if end - h.pos < h.size {
-        return 5;
-    }
-    0
-}
-
-// How long a box's body is: 0 where its size is under its header's.
-fn body_length(h: Header) -> u64
-    ensures { λ r. ⌜ r ≡ bodyLength h ⌝ }
-{
-    if h.size < h.head {
-        return 0;
-    }
-    h.size - h.head
-}
-
-// 6 where a `styp` or a `sidx` has no length that it may have, or 0.
-fn length_flaw(h: Header) -> u64
-    ensures { λ r. ⌜ r ≡ flawOf (topLengths h) ⌝ }
-{
-    let long = body_length(h);
-    if h.kind == STYP {
-        if long < 8 {
-            return 6;
-        }
-        if long % 4 != 0 {
-            return 6;
-        }
-        return 0;
-    }
-    if h.kind == SIDX {
-        if long < 24 {
-            return 6;
-        }
-        return 0;
-    }
-    0
-}
-
-// The lowest number that a header shows: by its size, by its length, and else `other`, what its type shows.
-pub fn header_flaw(end: u64, h: Header, other: u64) -> u64
-    ensures { λ r. ⌜
-        r ≡ pick (eqb (flawOf (sizeFaults end h ++ topLengths h)) 0) other (flawOf (sizeFaults end h ++ topLengths h))
-        ⌝ }
-{
-    let size = size_flaw(end, h);
-    if size != 0 {
-        return size;
-    }
-    let length = length_flaw(h);
-    if length != 0 {
-        return length;
-    }
-    other
 }

@@ -1,2 +1,1 @@
-pub mod Flaws
 pub mod OneOutcome

@@ -1,12 +1,9 @@
 // The first box of an index entry, one byte at a time: it must be an inner index, which fills its entry.
 ghost use mathlib.Core.Path.{_≡_};
 ghost use mathlib.Core.List.{List, _++_};
-ghost use mathlib.Core.Bool.{not, _&&_};
 ghost use Prim.Native.Nat.{ℕ, _<_, _≤_};
-ghost use lib.Dec.{eqb, leb};
 ghost use lib.ListN.{length};
-ghost use Rattle.basics.specs.Choose.{pick};
-ghost use Rattle.segment.specs.Constants.{limit, levels, styp, sidx};
+ghost use Rattle.segment.specs.Constants.{limit};
 ghost use Rattle.machine.specs.Heads.{sizeFaults};
 ghost use Rattle.machine.specs.Lists.{headed, stepBox};
 ghost use Rattle.state.specs.Flow.{Flow, workBytes};
@@ -15,13 +12,11 @@ ghost use Rattle.state.specs.Stages.{innerKind};
 ghost use Rattle.state.specs.Ranges.{Within};
 ghost use Rattle.state.specs.Calls.{flowOf};
 ghost use Rattle.header.specs.Views.{viewHead};
-ghost use Rattle.header.specs.Flaws.{flawOf};
+ghost use Rattle.flaws.specs.Flaws.{flawOf};
 ghost use Rattle.index.specs.Views.{viewIndex};
 ghost use Rattle.inner.specs.Views.{innerPhase, viewInner, headInner, bodyInner, boxBounds};
 use header::HeadSo;
 use header::HeadStep;
-use header::SIDX;
-use header::STYP;
 use index::IndexSo;
 use index::IndexStep;
 use index::Where;
@@ -33,9 +28,6 @@ use state::Slot;
 use state::Span;
 use state::Top;
 
-// The most levels of indexes, with the top one.
-const LEVELS: u64 = 4;
-
 // What a byte makes of the first box of an index entry: it goes on, the inner index is read, or it is refused.
 pub enum InnerStep {
     Go(InnerBox),
@@ -43,28 +35,12 @@ pub enum InnerStep {
     Bad(Refusal),
 }
 
-// The number that the type of the first box shows, or 0; `depth` indexes stand open around it.
-fn kind_flaw(depth: u64, kind: u64) -> u64
-    ensures { λ r. ⌜ r ≡ pick (eqb kind styp) 7 (pick (not (eqb kind sidx)) 9 (pick (eqb kind sidx && leb levels depth) 13 0)) ⌝ }
-{
-    if kind == STYP {
-        return 7;
-    }
-    if kind != SIDX {
-        return 9;
-    }
-    if LEVELS <= depth {
-        return 13;
-    }
-    0
-}
-
 // The lowest number that the header of the first box shows, or 0.
 fn inner_flaw(end: u64, depth: u64, h: Header) -> u64
     ensures { λ r. ⌜ r ≡ flawOf (sizeFaults end h ++ innerFaults depth h) ⌝ }
 {
-    let other = kind_flaw(depth, h.kind);
-    header::header_flaw(end, h, other)
+    let other = flaws::inner_kind_flaw(depth, h.kind);
+    flaws::header_flaw(end, h, other)
 }
 
 // The header is read. One that shows no fault ends within the entry, so that its end does not wrap.

@@ -1,25 +1,18 @@
--- What a leaf lacks at its end, and the faults that a header shows in it.
+-- What a leaf lacks at its end.
 use Prim.Native.Nat.{ℕ}
-use mathlib.Core.Path.{_≡_, refl, ap, sym, _∙_}
-use mathlib.Core.List.{List, [], _∷_, _++_}
-use mathlib.Core.Bool.{Bool, true, false, not, _&&_, _||_}
+use mathlib.Core.Path.{_≡_, refl, ap, _∙_}
+use mathlib.Core.List.{[], _++_}
+use mathlib.Core.Bool.{Bool, true, false, not}
 use native.Mathlib.Omega.{arith}
 use lib.Dec.{eqb, ltb}
-use borrow.Author.Tests.{le-ltb, ltb-false, eq-eqb, eqb-true}
+use borrow.Author.Tests.{le-ltb, ltb-false, eq-eqb}
 use Rattle.basics.specs.Choose.{pick}
 use Rattle.basics.proofs.Picks.{pick-yes, pick-no, pick-with}
-use Rattle.segment.specs.Constants.{styp, sidx, mdat}
 use Rattle.machine.specs.Faults.{refusal, shows, lowest, unless}
-use Rattle.machine.specs.Heads.{sizeFaults}
 use Rattle.machine.specs.Run.{done, bad}
 use Rattle.machine.specs.Lists.{goOn}
 use Rattle.machine.specs.declared.Refusal.{Refusal}
-use Rattle.machine.specs.declared.Header.{Header}
-use Rattle.machine.proofs.Kept.{Each}
-use Rattle.header.specs.Flaws.{flawOf}
-use Rattle.header.proofs.Flaws.{Test, shown, first, Placed, all-placed, all-flaws}
 use Rattle.state.specs.Flow.{Flow, left}
-use Rattle.state.specs.Rows.{is, topLengths, leafFaults}
 use Rattle.state.specs.Leaf.{leafLacks, leafNext, leafBoxes, wrapLeaf}
 use Rattle.state.specs.declared.Slot.{Slot}
 use Rattle.state.specs.declared.LeafSo.{LeafSo}
@@ -61,28 +54,3 @@ module _ (slot : Slot) (so : LeafSo) (f : Flow) (full : Bool) (room : RoomIs ful
       ap (λ q. goOn (leafBoxes id slot) wrapLeaf q f) (pick-yes _ _ _ (eq-eqb n (slot .end) e))
       ∙ ap (λ (t : Bool). unless (shows t 15 (slot .pos) ++ shows (not (so .seen .any)) 19 (slot .pos)) (λ x. bad x (left f)) (done (so .seen) f)) room
       ∙ unless-lacks full (so .seen .any) (slot .pos) (λ x. bad x (left f)) (done (so .seen) f)
-
--- a leaf beyond the room is a fault of its first box, and so stands at that box's place
-beyond-here : (p q : ℕ) (t u : Bool) → (t ≡ true → q ≡ p) → shows (t && u) 15 q ≡ shows (t && u) 15 p
-unfolding shows
-beyond-here p q true u e = ap (shows u 15) (e refl)
-beyond-here p q false u e = refl
-
--- what a header shows in a leaf, as tests in the order of their numbers
-module _ (end pos : ℕ) (had full : Bool) (h : Header) (f : Flow) (room : RoomIs full f) where
-  abbrev later : Test
-  later = (is h styp, 7)
-
-  abbrev others : List Test
-  others = (is h sidx || is h mdat && not had, 9) ∷ (eqb (h .pos) pos && full, 15) ∷ []
-
-  tests : leafFaults pos had h f ≡ topLengths h ++ shown (h .pos) later others
-  unfolding leafFaults
-  tests = rw (room, beyond-here (h .pos) pos (eqb (h .pos) pos) full (λ k. sym (eqb-true (h .pos) pos k)))
-
-  pub leaf-placed : Each (Placed (h .pos)) (sizeFaults end h ++ leafFaults pos had h f)
-  leaf-placed = rw tests (all-placed end h later others (omega arith))
-
-  pub leaf-flaws : flawOf (sizeFaults end h ++ leafFaults pos had h f)
-      ≡ pick (eqb (flawOf (sizeFaults end h ++ topLengths h)) 0) (first later others) (flawOf (sizeFaults end h ++ topLengths h))
-  leaf-flaws = rw tests (all-flaws end h later others (omega arith))

@@ -1,15 +1,13 @@
 // A leaf byte by byte: its boxes, a `moof` among them, and the boxes of a `moof`. What flows through a reading stays as it is inside a
 // leaf, so that no function here takes it; of the leaf table only whether it has room for one more leaf is told.
+use flaws::MOOF;
+use flaws::header_flaw;
+use flaws::leaf_kind_flaw;
+use flaws::size_flaw;
 use header::HeadSo;
 use header::HeadStep;
-use header::MDAT;
-use header::MOOF;
-use header::SIDX;
-use header::STYP;
 use header::head_byte;
-use header::header_flaw;
 use header::refused_head;
-use header::size_flaw;
 use machine::Head;
 use machine::Header;
 use machine::Refusal;
@@ -35,7 +33,7 @@ ghost use Rattle.machine.specs.Faults.{lowest};
 ghost use Rattle.machine.specs.Heads.{sizeFaults};
 ghost use Rattle.machine.specs.Lists.{goOn};
 ghost use Rattle.header.specs.Views.{viewHead, afterBody, afterHeader, afterHead};
-ghost use Rattle.header.specs.Flaws.{flawOf};
+ghost use Rattle.flaws.specs.Flaws.{flawOf};
 ghost use Rattle.state.specs.Flow.{Flow, left};
 ghost use Rattle.state.specs.Rows.{noRoom, leafFaults};
 ghost use Rattle.state.specs.Leaf.{seenNow, skipMoof, liftTraf, beginMoof, stepMoofBody, moofNext, moofBoxes, wrapMoof, stepMoof, skipLeaf, liftMoof, beginLeaf, stepLeafBody, leafNow, leafLacks};
@@ -317,30 +315,15 @@ fn after_leaf_body(slot: Slot, so: LeafSo, full: bool, r: LeafBodyStep, n: u64) 
     }
 }
 
-// Whether a box of this type may not stand here in a leaf: a `sidx`, or an `mdat` before the leaf's `moof`.
-fn misplaced(kind: u64, had: bool) -> bool
-    ensures { λ r. ⌜ r ≡ (eqb kind sidx || eqb kind mdat && not had) ⌝ }
-{
-    if kind == SIDX {
-        return true;
-    }
-    if kind == MDAT {
-        return !had;
-    }
-    false
-}
-
 // The number that a header shows in a leaf by its type and its place, or 0.
 fn kind_flaw(pos: u64, had: bool, full: bool, h: Header) -> u64
     ensures { λ r. ⌜
         r ≡ pick (eqb (h .kind) styp) 7 (pick (eqb (h .kind) sidx || eqb (h .kind) mdat && not had) 9 (pick (eqb (h .pos) pos && full) 15 0))
         ⌝ }
 {
-    if h.kind == STYP {
-        return 7;
-    }
-    if misplaced(h.kind, had) {
-        return 9;
+    let flaw = leaf_kind_flaw(had, h.kind);
+    if flaw != 0 {
+        return flaw;
     }
     if h.pos != pos {
         return 0;

@@ -1,3 +1,2 @@
-pub mod Flaws
 pub mod OpeningSteps
 pub mod OneOutcome

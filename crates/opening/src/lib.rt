@@ -1,12 +1,11 @@
 // The boxes up to the top index and the boxes of the gap, one byte at a time.
 ghost use mathlib.Core.Path.{_≡_};
 ghost use mathlib.Core.List.{List, _++_};
-ghost use mathlib.Core.Bool.{true, not, _||_};
+ghost use mathlib.Core.Bool.{true, _||_};
 ghost use Prim.Native.Nat.{ℕ, _+_, _<_, _≤_};
 ghost use lib.Dec.{eqb};
-ghost use Rattle.basics.specs.Choose.{pick};
 ghost use lib.ListN.{length};
-ghost use Rattle.segment.specs.Constants.{limit, styp, moof, mdat, sidx};
+ghost use Rattle.segment.specs.Constants.{limit};
 ghost use Rattle.machine.specs.Run.{done, bad, lift};
 ghost use Rattle.machine.specs.Heads.{sizeFaults};
 ghost use Rattle.machine.specs.Lists.{goOn};
@@ -17,15 +16,13 @@ ghost use Rattle.state.specs.Stages.{skipGap, gapNext, gapBoxes, wrapGap, stepG
 ghost use Rattle.state.specs.Ranges.{Within, openingBodyBounds, openingBounds, gapBounds};
 ghost use Rattle.state.specs.Calls.{flowOf};
 ghost use Rattle.header.specs.Views.{viewHead, afterHeader};
-ghost use Rattle.header.specs.Flaws.{flawOf};
+ghost use Rattle.flaws.specs.Flaws.{flawOf};
 ghost use Rattle.index.specs.Views.{viewIndex};
 ghost use Rattle.opening.specs.Views.{viewGap, viewOpening, headGap, bodyGap, headOpening, bodyOpening};
+use flaws::SIDX;
+use flaws::STYP;
 use header::HeadSo;
 use header::HeadStep;
-use header::MDAT;
-use header::MOOF;
-use header::SIDX;
-use header::STYP;
 use index::IndexSo;
 use index::IndexStep;
 use index::Where;
@@ -54,31 +51,12 @@ pub enum GapStep {
     Bad(Refusal),
 }
 
-// The number that a type shows in the gap, or 0.
-fn gap_kind_flaw(kind: u64) -> u64
-    ensures { λ r. ⌜ r ≡ pick (eqb kind styp) 7 (pick (eqb kind moof || eqb kind mdat || eqb kind sidx) 9 0) ⌝ }
-{
-    if kind == STYP {
-        return 7;
-    }
-    if kind == MOOF {
-        return 9;
-    }
-    if kind == MDAT {
-        return 9;
-    }
-    if kind == SIDX {
-        return 9;
-    }
-    0
-}
-
 // The lowest number that a header in the gap shows, or 0.
 fn gap_flaw(end: u64, h: Header) -> u64
     ensures { λ r. ⌜ r ≡ flawOf (sizeFaults end h ++ gapFaults h) ⌝ }
 {
-    let other = gap_kind_flaw(h.kind);
-    header::header_flaw(end, h, other)
+    let other = flaws::gap_kind_flaw(h.kind);
+    flaws::header_flaw(end, h, other)
 }
 
 // After a box of the gap: `m` bytes up to its last.
@@ -138,38 +116,12 @@ pub fn gap_byte(end: u64, s: GapBoxes, n: u64, b: u8) -> GapStep
     }
 }
 
-// Up to the top index the first box is a `styp`, and no other is.
-fn misplaced(branded: bool, kind: u64) -> bool
-    ensures { λ r. ⌜ r ≡ pick branded (eqb kind styp) (not (eqb kind styp)) ⌝ }
-{
-    if branded {
-        return kind == STYP;
-    }
-    kind != STYP
-}
-
-// The number that a type shows up to the top index, or 0.
-fn opening_kind_flaw(branded: bool, kind: u64) -> u64
-    ensures { λ r. ⌜ r ≡ pick (pick branded (eqb kind styp) (not (eqb kind styp))) 7 (pick (eqb kind moof || eqb kind mdat) 9 0) ⌝ }
-{
-    if misplaced(branded, kind) {
-        return 7;
-    }
-    if kind == MOOF {
-        return 9;
-    }
-    if kind == MDAT {
-        return 9;
-    }
-    0
-}
-
 // The lowest number that a header up to the top index shows, or 0.
 fn opening_flaw(branded: bool, h: Header) -> u64
     ensures { λ r. ⌜ r ≡ flawOf (sizeFaults limit h ++ openingFaults branded h) ⌝ }
 {
-    let other = opening_kind_flaw(branded, h.kind);
-    header::header_flaw(LIMIT, h, other)
+    let other = flaws::opening_kind_flaw(branded, h.kind);
+    flaws::header_flaw(LIMIT, h, other)
 }
 
 // A box is passed, and others follow.

@@ -1,9 +1,12 @@
 // The boxes of a `traf`, byte by byte. What flows through a reading stays as it is inside a `traf`, so that no function here takes it.
+use flaws::TFDT;
+use flaws::TFHD;
+use flaws::size_flaw;
+use flaws::traf_flaw;
 use header::HeadSo;
 use header::HeadStep;
 use header::head_byte;
 use header::refused_head;
-use header::size_flaw;
 use header::spelled;
 use machine::Head;
 use machine::Header;
@@ -17,7 +20,7 @@ use state::TrafPhase;
 use state::TrafSo;
 ghost use Prim.Native.Nat.{ℕ, _+_, _<_, _≤_};
 ghost use mathlib.Core.Path.{_≡_};
-ghost use mathlib.Core.Bool.{not, _&&_};
+ghost use mathlib.Core.Bool.{_&&_};
 ghost use mathlib.Core.List.{[], _++_};
 ghost use lib.Dec.{ltb};
 ghost use Rattle.basics.specs.Choose.{pick};
@@ -26,21 +29,15 @@ ghost use Rattle.machine.specs.Faults.{lowest};
 ghost use Rattle.machine.specs.Heads.{sizeFaults};
 ghost use Rattle.machine.specs.Lists.{goOn};
 ghost use Rattle.header.specs.Views.{viewHead, afterBody, afterHeader, afterHead};
-ghost use Rattle.header.specs.Flaws.{flawOf};
+ghost use Rattle.flaws.specs.Flaws.{flawOf};
+ghost use Rattle.flaws.specs.Marks.{markOf};
 ghost use Rattle.state.specs.Flow.{Flow};
-ghost use Rattle.state.specs.Rows.{fresh, headedTrack, trafFaults};
+ghost use Rattle.state.specs.Rows.{trafFaults};
 ghost use Rattle.state.specs.Traf.{nothing, timed, reference, skipTraf, restFrom, trafEnds, beginTraf, stepTrafBody, saw, trafNow, fallFaults, trafNext, trafBoxes, wrapTraf, stepTraf, beginTrafBoxes};
 ghost use Rattle.state.specs.Ranges.{Within, trafBodyBounds, trafBounds};
 ghost use Rattle.state.specs.declared.TrafBody.the-variants as body;
 ghost use Rattle.state.specs.declared.TrafPart.the-variants as part;
 ghost use Rattle.traf.specs.Views.{gaveOf, viewBody, refusalBody, viewTraf, timedTrack, besideTraf};
-
-// The types of the boxes that a `traf` knows.
-const TFHD: u64 = 1952868452;
-
-const TFDT: u64 = 1952867444;
-
-const TFAD: u64 = 1952866660;
 
 // What a box of a `traf` gives: nothing; whether its track is the reference track; or whether it is, its place and its decode time.
 pub enum Given {
@@ -235,57 +232,6 @@ fn body_begin(h: Header, n: u64) -> BodyStep
     skip_to(end, n)
 }
 
-fn may_head(t: TrafPhase) -> bool
-    ensures { λ r. ⌜ r ≡ fresh t ⌝ }
-{
-    match t {
-        TrafPhase::Fresh => true,
-        TrafPhase::Headed { reference: _ } => false,
-        TrafPhase::Timed => false,
-    }
-}
-
-fn may_time(t: TrafPhase) -> bool
-    ensures { λ r. ⌜ r ≡ headedTrack t ⌝ }
-{
-    match t {
-        TrafPhase::Fresh => false,
-        TrafPhase::Headed { reference: _ } => true,
-        TrafPhase::Timed => false,
-    }
-}
-
-// The number that a `tfhd` or a `tfdt` shows by its length, and else by whether it may come, or 0.
-fn part_flaw(body: u64, may: bool) -> u64
-    ensures { λ r. ⌜ r ≡ pick (ltb body 8) 6 (pick (not may) 16 0) ⌝ }
-{
-    if body < 8 {
-        return 6;
-    }
-    if may {
-        return 0;
-    }
-    16
-}
-
-// The lowest number of the faults that a header shows in a `traf`, or 0.
-fn traf_flaw(t: TrafPhase, h: Header) -> u64
-    requires { ⌜ h .head ≤ h .size ⌝ }
-    ensures { λ r. ⌜ r ≡ flawOf (trafFaults t h) ⌝ }
-{
-    let body = h.size - h.head;
-    if h.kind == TFHD {
-        return part_flaw(body, may_head(t));
-    }
-    if h.kind == TFDT {
-        return part_flaw(body, may_time(t));
-    }
-    if h.kind == TFAD {
-        return 17;
-    }
-    0
-}
-
 // One more decode time, which counts where it is the reference track's.
 fn with_time(s: Seen, reference: bool, v: u64) -> Seen
     ensures { λ r. ⌜ r ≡ saw s reference v ⌝ }
@@ -431,6 +377,22 @@ fn after_body(span: Span, so: TrafSo, r: BodyStep, n: u64) -> TrafStep
     }
 }
 
+// How far a `traf` has come, as a number.
+fn mark_of(t: TrafPhase) -> u64
+    ensures { λ r. ⌜ r ≡ markOf t ⌝ }
+{
+    match t {
+        TrafPhase::Fresh => 0,
+        TrafPhase::Headed { reference } => {
+            if reference {
+                return 3;
+            }
+            2
+        }
+        TrafPhase::Timed => 1,
+    }
+}
+
 // The lowest number of all faults that the header of a box shows, or 0.
 fn box_flaw(end: u64, t: TrafPhase, h: Header) -> u64
     ensures { λ r. ⌜ r ≡ flawOf (sizeFaults end h ++ trafFaults t h) ⌝ }
@@ -439,7 +401,7 @@ fn box_flaw(end: u64, t: TrafPhase, h: Header) -> u64
     if flaw != 0 {
         return flaw;
     }
-    traf_flaw(t, h)
+    traf_flaw(mark_of(t), h)
 }
 
 // The header of a box is read: `n` bytes up to its last.

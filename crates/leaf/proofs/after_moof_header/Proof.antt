@@ -1,4 +1,4 @@
--- `leaf::after_moof_header` meets its contract, by those of `size_flaw`, `begin_moof` and `after_moof_body`, by the laws `size-placed`, `size-clean`,
+-- `leaf::after_moof_header` meets its contract, by those of `size_flaw`, `begin_moof` and `after_moof_body`, by the laws `size-clean`,
 -- `headed-bad` and `headed-good`, and by the definitions of `lift` and `lowest`.
 use mathlib.Core.Path.{sym, _∙_}
 use native.Mathlib.Omega.{arith}
@@ -7,8 +7,9 @@ use Rattle.machine.specs.Run.{lift}
 use Rattle.state.specs.Leaf.{moofBoxes}
 use borrow.Author.Needs.{needs}
 use mathlib.Core.List.{append-nil}
-use Rattle.header.proofs.Flaws.{size-placed, size-clean}
-use Rattle.header.proofs.Lists.{headed-bad, headed-good}
+use Rattle.machine.proofs.Kept.{each-none}
+use Rattle.flaws.proofs.Flaws.{Beyond, size-clean}
+use Rattle.flaws.proofs.Headed.{headed-bad, headed-good}
 use Rattle.leaf.proofs.after_moof_header.Statement.{statement}
 use Rattle.leaf.proofs.after_moof_header.Tie as tie
 
@@ -17,7 +18,7 @@ unfolding lift lowest
 returns c =
     let a = c .before .before .args in
     λ id f. rw (headed-bad (moofBoxes id (a .end) .box (a .seen)) (a .h) f (a .n) _
-    (rw append-nil (size-placed (a .end) (a .h))) (rw append-nil (c .before .size-flaw .ensures)) (c .if1 .taken))
+    (each-none (Beyond (a .h .pos))) (rw append-nil (c .before .size-flaw .ensures)) (c .if1 .taken))
 
 begin-moof-requires : tie.Need-begin-moof-requires
 begin-moof-requires c κs =
@@ -30,7 +31,7 @@ returns-2 c =
     let a = test .before .before .args in
     λ id f. rw (
       headed-good (moofBoxes id (a .end) .box (a .seen)) (a .h) f (a .n) _
-          (rw append-nil (size-placed (a .end) (a .h))) (rw append-nil (test .before .size-flaw .ensures)) (test .if1 .left),
+          (each-none (Beyond (a .h .pos))) (rw append-nil (test .before .size-flaw .ensures)) (test .if1 .left),
       ← c .before .begin-moof .ensures id f,
     )
     (c .after-moof-body .ensures id f)

@@ -1,0 +1,5 @@
+pub mod Flaws
+pub mod Marks
+pub mod Places
+pub mod Headed
+pub mod OneOutcome
