@@ -1,8 +1,9 @@
 -- What a stage makes of the answer of its part, and what is left in the leaf table.
-use Prim.Native.Nat.{ℕ, _+_, _<_}
+use Prim.Native.Nat.{ℕ, _+_, _*_, _≤_, _<_}
 use mathlib.Core.List.{List}
+use lib.ListN.{length}
 use Rattle.segment.specs.Constants.{timeLimit}
-use Rattle.table.specs.Table.{putRecord}
+use Rattle.table.specs.Table.{recordNumbers, putRecord}
 use Rattle.machine.specs.Run.{Sub, bad, lift}
 use Rattle.state.specs.declared.Top.{Top}
 use Rattle.state.specs.declared.Level.{Level}
@@ -35,6 +36,12 @@ EndsIn n (openings.Bad x) = Unit {0}
 
 abbrev pub liftGap : Top → Level → ℕ → Sub GapBoxes (Unit {0}) Flow Left → Sub Stage Top Flow Left
 liftGap top l end r = lift (stage.Gap top l end) (λ u g. follow top (levels.One l) g) bad r
+
+-- where a leaf is done, the table has room for its record
+abbrev pub RoomFor : ℕ → LeafStep → List ℕ → Type 0
+RoomFor count (leaves.Go s) table = Unit {0}
+RoomFor count (leaves.Done seen) table = recordNumbers * count + recordNumbers ≤ length table
+RoomFor count (leaves.Bad x) table = Unit {0}
 
 -- a leaf that is done has its record in the table
 unfoldable pub tableAfter : ℕ → Slot → ℕ → LeafStep → List ℕ → List ℕ

@@ -24,7 +24,7 @@ ghost use Rattle.opening.specs.Views.{viewOpening, viewGap};
 ghost use Rattle.leaf.specs.Leaf.{viewLeaf};
 ghost use Rattle.inner.specs.Views.{viewInner};
 ghost use Rattle.next_stage.specs.Views.{flowing, viewStage};
-ghost use Rattle.next_stage.specs.Arms.{liftOpening, Ends, EndsIn, liftGap, tableAfter};
+ghost use Rattle.next_stage.specs.Arms.{liftOpening, Ends, EndsIn, liftGap, RoomFor, tableAfter};
 
 // The numbers that flow through a reading: leaves listed, when the next entry starts, the last decode time.
 pub struct Running {
@@ -153,7 +153,7 @@ fn leaf_record(slot: Slot, at: u64, first: u64) -> Record
 
 // The record of a leaf that is done.
 pub fn record_after(leaves: u64, slot: Slot, at: u64, q: LeafStep, table: &mut [u64])
-    requires { ⌜ leaves ≤ mostRecords ⌝ }
+    requires { ⌜ RoomFor leaves q (now table) ⌝ }
     ensures { λ _. ⌜ now (table .exit) ≡ tableAfter leaves slot at q (now (table .entry)) ⌝ }
 {
     match q {

@@ -1,35 +1,30 @@
 -- A record put number by number, one read number by number, and the room of a table by its length.
 use Prim.Native.Nat.{ℕ, suc, _+_, _*_, _/_, _≤_, _<_}
 use mathlib.Core.Path.{_≡_, ap, sym, _∙_}
-use mathlib.Core.List.{List, [], _∷_}
+use mathlib.Core.List.{List}
 use native.Mathlib.Omega.{arith}
+use mathlib.Core.Bool.{false, true}
+use mathlib.Core.Logic.{_⊎_, inl, inr}
+use lib.Dec.{ltb, leb}
 use lib.ListN.{length, set, getD}
-use borrow.Author.Tests.{lt-ltb, le-ltb}
+use borrow.Author.Tests.{lt-ltb, le-ltb, le-leb, lt-leb, ltb-true, ltb-false, leb-false}
 use Rattle.basics.specs.Put.{putAll}
-use Rattle.basics.proofs.Picks.{pick-yes, pick-no}
+use Rattle.basics.proofs.Picks.{lt-or-ge, pick-holds}
 use Rattle.table.specs.declared.Record.{Record}
 use Rattle.table.specs.Table.{mostRecords, recordNumbers, numbersOf, recordAt, room}
 
-put-next : (t t' : List ℕ) (i j x : ℕ) (xs : List ℕ) → t' ≡ set t i x → suc i ≡ j → putAll t i (x ∷ xs) ≡ putAll t' j xs
-unfolding putAll
-put-next t t' i j x xs e k = rw (e, ← k)
-
-put-last : (t t' : List ℕ) (i x : ℕ) → t' ≡ set t i x → t' ≡ putAll t i (x ∷ [])
-unfolding putAll
-put-last t t' i x e = e
-
 -- the numbers of a record, put one after the other
-pub record-put : (t0 t1 t2 t3 t4 t5 t6 : List ℕ) (i : ℕ) (r : Record) →
-    t1 ≡ set t0 i (r .position) → t2 ≡ set t1 (i + 1) (r .size) → t3 ≡ set t2 (i + 2) (r .start) →
-    t4 ≡ set t3 (i + 3) (r .duration) → t5 ≡ set t4 (i + 4) (r .sap) → t6 ≡ set t5 (i + 5) (r .time) → t6 ≡ putAll t0 i (numbersOf r)
-record-put t0 t1 t2 t3 t4 t5 t6 i r e1 e2 e3 e4 e5 e6 =
-    let last : List ℕ = r .time ∷ [] in
-    put-last t5 t6 (i + 5) (r .time) e6
-    ∙ sym (put-next t4 t5 (i + 4) (i + 5) (r .sap) last e5 (omega arith))
-    ∙ sym (put-next t3 t4 (i + 3) (i + 4) (r .duration) (r .sap ∷ last) e4 (omega arith))
-    ∙ sym (put-next t2 t3 (i + 2) (i + 3) (r .start) (r .duration ∷ r .sap ∷ last) e3 (omega arith))
-    ∙ sym (put-next t1 t2 (i + 1) (i + 2) (r .size) (r .start ∷ r .duration ∷ r .sap ∷ last) e2 (omega arith))
-    ∙ sym (put-next t0 t1 i (i + 1) (r .position) (r .size ∷ r .start ∷ r .duration ∷ r .sap ∷ last) e1 (omega arith))
+pub record-put : (table : List ℕ) (i : ℕ) (r : Record) →
+    set (set (set (set (set (set table i (r .position)) (i + 1) (r .size)) (i + 2) (r .start)) (i + 3) (r .duration)) (i + 4) (r .sap)) (i + 5) (r .time)
+    ≡ putAll table i (numbersOf r)
+unfolding putAll
+record-put table i r =
+    let second : i + 1 ≡ suc i = omega arith in
+    let third : i + 2 ≡ suc (suc i) = omega arith in
+    let fourth : i + 3 ≡ suc (suc (suc i)) = omega arith in
+    let fifth : i + 4 ≡ suc (suc (suc (suc i))) = omega arith in
+    let sixth : i + 5 ≡ suc (suc (suc (suc (suc i)))) = omega arith in
+    rw (second, third, fourth, fifth, sixth)
 
 -- a record by its numbers, the first of them where the record starts
 abbrev recordFrom : List ℕ → ℕ → ℕ → Record
@@ -47,10 +42,36 @@ pub record-read : (table : List ℕ) (i : ℕ) → recordFrom table (recordNumbe
 unfolding recordAt
 record-read table i = let e : recordNumbers * i ≡ recordNumbers * i + 0 = omega arith in ap (λ (first : ℕ). recordFrom table (recordNumbers * i) first) e
 
-pub room-most : (table : List ℕ) (len : ℕ) → length table ≡ len → mostRecords < len / recordNumbers → mostRecords ≡ room table
-unfolding room
-room-most table len e h = sym (pick-yes _ _ _ (rw e (lt-ltb _ _ h)))
+-- as many records as the room takes are at most 4,096, and stand in the table
+module _ (table : List ℕ) (n : ℕ) where
+  abbrev whole : ℕ
+  whole = length table / recordNumbers
 
-pub room-less : (table : List ℕ) (len : ℕ) → length table ≡ len → len / recordNumbers ≤ mostRecords → len / recordNumbers ≡ room table
-unfolding room
-room-less table len e h = sym (pick-no _ _ _ (rw e (le-ltb _ _ h)) ∙ ap (λ (n : ℕ). n / recordNumbers) e)
+  room-takes : n ≤ room table → (n ≤ mostRecords) × (recordNumbers * n ≤ length table)
+  unfolding room
+  room-takes h =
+      pick-holds (λ q. n ≤ q → (n ≤ mostRecords) × (recordNumbers * n ≤ length table)) (ltb mostRecords whole) mostRecords whole
+      (λ e k. (k, omega (arith, ltb-true mostRecords whole e))) (λ e k. (omega (arith, ltb-false mostRecords whole e), omega arith)) h
+
+  room-has : n ≤ mostRecords → recordNumbers * n ≤ length table → n ≤ room table
+  unfolding room
+  room-has h k = pick-holds (λ q. n ≤ q) (ltb mostRecords whole) mostRecords whole (λ e. h) (λ e. omega arith)
+
+-- whether a table has no room for one leaf more, without a division
+module _ (table : List ℕ) (leaves : ℕ) where
+  pub room-over : mostRecords ≤ leaves → leb (room table) leaves ≡ true
+  room-over h = le-leb (room table) leaves (omega (arith, room-takes table (room table) (omega arith) .0))
+
+  pub room-by : leaves < mostRecords → ltb (length table) (recordNumbers * leaves + recordNumbers) ≡ leb (room table) leaves
+  room-by h = by (lt-or-ge (length table) (recordNumbers * leaves + recordNumbers)) (lt-or-ge leaves (room table))
+    where
+      by : (length table < recordNumbers * leaves + recordNumbers) ⊎ (recordNumbers * leaves + recordNumbers ≤ length table) → (leaves < room table) ⊎ (room table ≤ leaves) →
+          ltb (length table) (recordNumbers * leaves + recordNumbers) ≡ leb (room table) leaves
+      by (inl short) (inl less) = absurd (omega (arith, room-takes table (suc leaves) less .1))
+      by (inl short) (inr more) = lt-ltb _ _ short ∙ sym (le-leb _ _ more)
+      by (inr long) (inl less) = le-ltb _ _ long ∙ sym (lt-leb _ _ less)
+      by (inr long) (inr more) = absurd (omega (arith, room-has table (suc leaves) (omega arith) (omega arith)))
+
+  -- where it has room, a record fits
+  pub room-for : leb (room table) leaves ≡ false → recordNumbers * leaves + recordNumbers ≤ length table
+  room-for e = omega (arith, room-takes table (suc leaves) (leb-false (room table) leaves e) .1)

@@ -3,7 +3,7 @@ ghost use mathlib.Core.List.{List};
 ghost use mathlib.Core.Path.{_≡_};
 ghost use Prim.Native.Nat.{ℕ, _+_, _*_, _≤_, _<_};
 ghost use lib.Dec.{leb};
-ghost use lib.ListN.{length, set};
+ghost use lib.ListN.{length};
 ghost use Rattle.table.specs.Table as defs;
 use table::DURATION;
 use table::MOST_RECORDS;
@@ -14,22 +14,14 @@ use table::SIZE;
 use table::START;
 use table::TIME;
 
-// How many records a leaf table of this length takes.
-fn room(len: usize) -> u64
-    ensures { λ r. ⌜ ((table : List ℕ) → length table ≡ len → r ≡ defs.room table) ⌝ }
-{
-    let whole = (len / NUMBERS) as u64;
-    if MOST_RECORDS < whole {
-        return MOST_RECORDS;
-    }
-    whole
-}
-
 // Whether a leaf table of this length has no room for one leaf more.
 pub fn no_room(leaves: u64, len: usize) -> bool
     ensures { λ r. ⌜ ((table : List ℕ) → length table ≡ len → r ≡ leb (defs.room table) leaves) ⌝ }
 {
-    room(len) <= leaves
+    if MOST_RECORDS <= leaves {
+        return true;
+    }
+    len < NUMBERS * (leaves as usize) + NUMBERS
 }
 
 // The numbers of a record, in their order.
@@ -39,28 +31,18 @@ pub fn numbers_of(r: Record) -> [u64; 6]
     [r.position, r.size, r.start, r.duration, r.sap, r.time]
 }
 
-// A number put where the table has a place for it.
-fn put_at(table: &mut [u64], i: usize, x: u64)
-    ensures { λ _. ⌜ now (table .exit) ≡ set (now (table .entry)) i x ⌝ }
-{
-    if table.len() <= i {
-        return;
-    }
-    table[i] = x;
-}
-
 // A record put after those of the `leaves` before it.
 pub fn put_record(table: &mut [u64], leaves: u64, r: Record)
-    requires { ⌜ leaves ≤ defs.mostRecords ⌝ }
+    requires { ⌜ defs.recordNumbers * leaves + defs.recordNumbers ≤ length (now table) ⌝ }
     ensures { λ _. ⌜ now (table .exit) ≡ defs.putRecord (now (table .entry)) leaves r ⌝ }
 {
     let i = NUMBERS * (leaves as usize);
-    put_at(table, i, r.position);
-    put_at(table, i + SIZE, r.size);
-    put_at(table, i + START, r.start);
-    put_at(table, i + DURATION, r.duration);
-    put_at(table, i + SAP, r.sap);
-    put_at(table, i + TIME, r.time);
+    table[i] = r.position;
+    table[i + SIZE] = r.size;
+    table[i + START] = r.start;
+    table[i + DURATION] = r.duration;
+    table[i + SAP] = r.sap;
+    table[i + TIME] = r.time;
 }
 
 // Record i, from 0.

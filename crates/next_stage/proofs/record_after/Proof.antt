@@ -7,6 +7,9 @@ use borrow.Author.Needs.{needs}
 use Rattle.next_stage.proofs.record_after.Statement.{statement}
 use Rattle.next_stage.proofs.record_after.Tie as tie
 
+put-record-requires : tie.Need-put-record-requires
+put-record-requires c κs = let arm = c .before .before .before in rw (arm .q .given .1) at (arm .before .before .before .pre)
+
 returns : tie.Need-returns
 unfolding tableAfter
 returns c = rw (c .enum-told .given .1)
@@ -28,5 +31,5 @@ returns-3 c = rw (c .enum-told2 .given .1)
 pub record-after-spec : {M : Type 1} → statement M
 record-after-spec =
     tie.close
-    (tie.spec (search needs) (search needs) (search needs) (search needs) (search needs) returns (search needs) returns-2
+    (tie.spec (search needs) (search needs) (search needs) put-record-requires (search needs) returns (search needs) returns-2
     returns-3)

@@ -1,10 +1,21 @@
--- `stage::leaf_stage` meets its contract, by those of `no_room`, `leaf_byte`, `record_after` and `leaf_after`, and by the law `leaf-step`.
+-- `stage::leaf_stage` meets its contract, by those of `no_room`, `leaf_byte`, `record_after` and `leaf_after`, and by the laws `done-roomy`
+-- and `leaf-step`.
 use mathlib.Core.Path.{refl, sym}
+use mathlib.Core.List.{[]}
 use Rattle.next_stage.specs.Views.{flowing}
+use Rattle.stage.proofs.Rooms.{done-roomy}
 use Rattle.stage.proofs.Steps.{leaf-step}
 use borrow.Author.Needs.{needs}
 use Rattle.stage.proofs.leaf_stage.Statement.{statement}
 use Rattle.stage.proofs.leaf_stage.Tie as tie
+
+record-after-requires : tie.Need-record-after-requires
+record-after-requires c κs =
+    let stepped = c .before in
+    let at-no-room = stepped .before in
+    let a = at-no-room .before .before .args in
+    let f = flowing (a .r) [] (a .table .now) in
+    done-roomy (a .top .id) (a .slot) (a .s) f (a .n) (a .b) (stepped .leaf-byte .result) (stepped .leaf-byte .ensures f (sym (at-no-room .no-room .ensures _ refl)))
 
 returns : tie.Need-returns
 returns c =
@@ -19,4 +30,4 @@ returns c =
 pub leaf-stage-spec : {M : Type 1} → statement M
 leaf-stage-spec =
     tie.close
-    (tie.spec (search needs) (λ c κs. search needs) (search needs) (search needs) (search needs) returns)
+    (tie.spec (search needs) (λ c κs. search needs) record-after-requires (search needs) (search needs) returns)
