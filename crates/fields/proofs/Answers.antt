@@ -1,13 +1,16 @@
 -- What an answer says: where a field ends and how long it is, and where a header stands, how long it is and where its box ends.
 use Prim.Native.Nat.{ℕ, _+_, _^_, _≤_, _<_}
 use mathlib.Core.Path.{_≡_, refl, sym, subst, _∙_}
-use mathlib.Core.List.{List}
+use mathlib.Core.List.{List, [], _∷_}
 use mathlib.Core.Bool.{Bool, true, false}
 use native.Mathlib.Omega.{arith}
 use lib.Dec.{eqb, ltb, leb}
 use lib.ListN.{length}
 use borrow.Author.Tests.{ltb-true, ltb-false, leb-false}
+use types.Run.{OneOf}
+use mathlib.Core.Logic.{inl, inr}
 use Rattle.basics.specs.Choose.{pick}
+use Rattle.basics.proofs.Picks.{pick-holds}
 use Rattle.machine.specs.declared.Header.{Header}
 use Rattle.fields.specs.Answers.{numberAt, fieldAt, Small, checkedAt, largeAt, headAt}
 use Rattle.fields.specs.declared.FieldRead.{FieldRead}
@@ -108,3 +111,33 @@ module _ (s : List ℕ) (at end : ℕ) (h : Header) where
       go false false true w x q = not-read q
       go false false false true x q = large-in _ q
       go false false false false x q = checked-in _ _ 8 (omega arith) (omega arith) (omega (arith, ltb-false (length s) (at + 8) x)) q
+
+-- a fault that a header shows lies within its container
+abbrev pub FaultWithin : ℕ → HeadRead → Type 0
+FaultWithin end (head.Read h) = Unit {0}
+FaultWithin end (head.Bad x) = (x .place ≤ end) × (x .count ≤ end)
+FaultWithin end head.Ended = Unit {0}
+
+module _ (s : List ℕ) (at end : ℕ) where
+  checked-within : (kind size long : ℕ) → at + long ≤ end → FaultWithin end (checkedAt at end kind size long)
+  unfolding checkedAt
+  checked-within kind size long h =
+      pick-holds (FaultWithin end) (ltb size long) _ _ (λ e. (omega arith, h)) (λ e. pick-holds (FaultWithin end) (ltb end (at + size)) _ _ (λ e'. (omega arith, h)) (λ e'. tt))
+
+  pub head-within : at < end → FaultWithin end (headAt s at end)
+  unfolding headAt largeAt
+  head-within some =
+      pick-holds (FaultWithin end) (leb (length s) at) _ _ (λ e. tt) (λ e.
+      pick-holds (FaultWithin end) (ltb end (at + 8)) _ _ (λ e'. (omega arith, omega arith)) (λ short.
+      let eight : at + 8 ≤ end = ltb-false end (at + 8) short in
+      pick-holds (FaultWithin end) (ltb (length s) (at + 8)) _ _ (λ e'. tt) (λ e'.
+      pick-holds (FaultWithin end) (eqb (numberAt 4 s at) 1) _ _
+      (λ e''. pick-holds (FaultWithin end) (ltb end (at + 16)) _ _ (λ q. (omega arith, eight)) (λ long.
+      let sixteen : at + 16 ≤ end = ltb-false end (at + 16) long in
+      pick-holds (FaultWithin end) (ltb (length s) (at + 16)) _ _ (λ q. tt) (λ q. checked-within _ _ 16 sixteen)))
+      (λ e''. checked-within _ _ 8 eight))))
+
+-- an answer with three cases that is one of the last two is not the first
+pub not-first : {A : Type 0} {tag : ℕ} → tag ≡ 0 → OneOf (1 ∷ 2 ∷ []) tag → A
+not-first e (inl p) = absurd (omega arith)
+not-first e (inr p) = absurd (omega arith)

@@ -3,3 +3,4 @@ pub mod Marks
 pub mod Places
 pub mod Headed
 pub mod OneOutcome
+pub mod Told

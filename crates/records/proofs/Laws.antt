@@ -75,3 +75,6 @@ module _ (table : List ℕ) (leaves : ℕ) where
   -- where it has room, a record fits
   pub room-for : leb (room table) leaves ≡ false → recordNumbers * leaves + recordNumbers ≤ length table
   room-for e = omega (arith, room-takes table (suc leaves) (leb-false (room table) leaves e) .1)
+
+  pub room-few : leb (room table) leaves ≡ false → leaves < mostRecords
+  room-few e = omega (arith, room-takes table (suc leaves) (leb-false (room table) leaves e) .0)
