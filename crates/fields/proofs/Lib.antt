@@ -1,4 +1,5 @@
 pub mod Width
 pub mod Answers
 pub mod Descents
+pub mod Lists
 pub mod OneOutcome
