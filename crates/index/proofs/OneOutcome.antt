@@ -1,10 +1,16 @@
 -- The contracts of the functions that other crates call, as the check reads them: two outcomes that one allows coincide, and those that ask nothing say so.
 use Prim.Native.Nat.{ℕ}
 use mathlib.Core.Path.{_≡_, refl, sym, ap, _∙_}
-use mathlib.Core.List.{List, []}
+use mathlib.Core.List.{List, [], _∷_}
+use mathlib.Core.Bool.{Bool, true, false, not}
+use lib.Dec.{eqb}
+use borrow.Author.Tests.{eqb-true}
 use Rattle.basics.proofs.Outcomes.{left-inverse-equal}
 use Rattle.basics.specs.Outcome.{Coincide, OneOutcome, afterCall}
+use Rattle.machine.specs.Faults.{shows}
 use Rattle.machine.specs.Run.{Sub, go, done, bad}
+use Rattle.machine.specs.declared.Refusal.{Refusal}
+use Rattle.state.specs.declared.Span.{Span}
 use Rattle.state.specs.declared.Sidx.{Sidx}
 use Rattle.state.specs.declared.IndexRead.{IndexRead}
 use Rattle.state.specs.Flow.{Flow, Left}
@@ -17,6 +23,12 @@ use Rattle.index.proofs.refused_index.Kinds as refused-kinds
 use Rattle.index.proofs.refused_index.Reads as refused-stated
 use Rattle.index.proofs.index_begin.Kinds as begin-kinds
 use Rattle.index.proofs.index_begin.Reads as begin-stated
+use Rattle.index.proofs.too_short.Kinds as short-kinds
+use Rattle.index.proofs.too_short.Reads as short-stated
+use Rattle.index.proofs.no_count.Kinds as count-kinds
+use Rattle.index.proofs.no_count.Reads as count-stated
+use Rattle.index.proofs.sums_flaw.Kinds as sums-kinds
+use Rattle.index.proofs.sums_flaw.Reads as sums-stated
 use Rattle.index.proofs.byte_place.Kinds as place-kinds
 use Rattle.index.proofs.byte_place.Reads as place-stated
 use Rattle.index.proofs.index_byte.Kinds as byte-kinds
@@ -40,6 +52,33 @@ refused-index-once = record { asks-nothing = λ κs given. tt; outcomes-coincide
 -- of nothing: one index to begin with
 pub index-begin-once : OneOutcome 0 begin-kinds.ps begin-kinds.r begin-stated.Pre begin-stated.Post
 index-begin-once = record { asks-nothing = λ κs given. tt; outcomes-coincide = λ κs given r r' left left' p q. (p ∙ sym q, refl) }
+
+-- of one version, box end and count of bytes: one test
+pub too-short-once : Coincide 0 short-kinds.ps short-kinds.r short-stated.Post
+too-short-once κs given r r' left left' p q = (p ∙ sym q, refl)
+
+-- of one count: one test
+pub no-count-once : OneOutcome 0 count-kinds.ps count-kinds.r count-stated.Pre count-stated.Post
+no-count-once = record { asks-nothing = λ κs given. tt; outcomes-coincide = λ κs given r r' left left' p q. (p ∙ sym q, refl) }
+
+-- the number that a fault shows, had back
+abbrev numberShown : List Refusal → ℕ
+numberShown [] = 0
+numberShown (x ∷ xs) = x .number
+
+number-shown : (r p : ℕ) → numberShown (shows (not (eqb r 0)) r p) ≡ r
+unfolding shows
+number-shown r p = at (eqb r 0) refl
+  where
+    at : (t : Bool) → eqb r 0 ≡ t → numberShown (shows (not t) r p) ≡ r
+    at true e = sym (eqb-true r 0 e)
+    at false e = refl
+
+-- of one index that was read, its place, time and count of bytes: one number
+pub sums-flaw-once : Coincide 0 sums-kinds.ps sums-kinds.r sums-stated.Post
+sums-flaw-once κs given r r' left left' p q =
+    let span : Span = record { pos = 0; end = 0 } in
+    (left-inverse-equal numberShown (number-shown r 0) (number-shown r' 0) (sym (p span) ∙ q span), refl)
 
 -- of one byte of one entry: one place in the work area
 pub byte-place-once : Coincide 0 place-kinds.ps place-kinds.r place-stated.Post

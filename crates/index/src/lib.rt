@@ -25,7 +25,7 @@ ghost use Rattle.segment.specs.Constants.{limit, timeLimit, typeBit, mostEntrie
 ghost use Rattle.machine.specs.Run.{bad};
 ghost use Rattle.machine.specs.Faults.{shows, unless};
 ghost use Rattle.state.specs.Flow.{Flow, left, workBytes};
-ghost use Rattle.state.specs.Sidx.{Place, partOf, wideMore, closeSidx, fieldEnds, entryEnds, wordPlace, bytePlace, sidxStart, stepSidx};
+ghost use Rattle.state.specs.Sidx.{Place, partOf, wideMore, sumFaults, closeSidx, fieldEnds, entryEnds, wordPlace, bytePlace, sidxStart, stepSidx};
 ghost use Rattle.state.specs.Ranges.{Within, sidxBounds, indexMost, wordLimit};
 ghost use Rattle.state.specs.Calls.{flowOf};
 ghost use Rattle.index.specs.Views.{placeOf, viewIndex, refusalIndex, Shallow, Timely, Summed};
@@ -73,7 +73,7 @@ fn unless_shown(shown: bool, number: u64, place: u64, next: IndexStep) -> IndexS
 }
 
 // A version of 64-bit numbers in a box too short for them; the version byte is the n-th.
-fn too_short(end: u64, v: u64, n: u64) -> bool
+pub fn too_short(end: u64, v: u64, n: u64) -> bool
     requires { ⌜ n ≤ limit ⌝ }
     ensures { λ r. ⌜ r ≡ (eqb v 1 && ltb end (n + 31)) ⌝ }
 {
@@ -210,7 +210,7 @@ fn offset_end(p: Where, span: Span, draft: Draft, v: u64) -> IndexStep
     }
 }
 
-fn no_count(v: u64) -> bool
+pub fn no_count(v: u64) -> bool
     ensures { λ r. ⌜ r ≡ (eqb v 0 || ltb mostEntries v) ⌝ }
 {
     if v == 0 {
@@ -307,6 +307,27 @@ fn other_sums(slot: Slot, x: IndexRead, at: u64, n: u64) -> bool
     slot.until - at != x.durations
 }
 
+// The number that the sums of an index's entries show, or 0: 14 on top, 12 under an entry; the index ends with the n-th byte.
+pub fn sums_flaw(p: Where, x: IndexRead, at: u64, n: u64) -> u64
+    requires { ⌜ Timely p at × (x .sizes ≤ typeBit * mostEntries) × (n ≤ limit) ⌝ }
+    ensures { λ r. ⌜ ((span : Span) → sumFaults (placeOf p) span x at n ≡ shows (not (eqb r 0)) r (span .pos)) ⌝ }
+{
+    match p {
+        Where::Topmost => {
+            if too_much(x, n) {
+                return 14;
+            }
+            0
+        }
+        Where::Under(_, slot, _) => {
+            if other_sums(slot, x, at, n) {
+                return 12;
+            }
+            0
+        }
+    }
+}
+
 // The entries are read, the n-th byte was the last.
 fn close_index(p: Where, span: Span, x: IndexRead, at: u64, n: u64) -> IndexStep
     requires { ⌜ Timely p at × (x .sizes ≤ typeBit * mostEntries) × (n ≤ limit) ⌝ }
@@ -316,11 +337,13 @@ fn close_index(p: Where, span: Span, x: IndexRead, at: u64, n: u64) -> IndexStep
         ≡ closeSidx (placeOf p) span x (flowOf leaves at last work table) n)
         ⌝ }
 {
-    let next = IndexStep::Taken(IndexSo::Read(x));
-    match p {
-        Where::Topmost => unless_shown(too_much(x, n), 14, span.pos, next),
-        Where::Under(_, slot, _) => unless_shown(other_sums(slot, x, at, n), 12, span.pos, next),
-    }
+    let flaw = sums_flaw(p, x, at, n);
+    unless_shown(
+        flaw != 0,
+        flaw,
+        span.pos,
+        IndexStep::Taken(IndexSo::Read(x)),
+    )
 }
 
 // The size of an entry is not 0, and is under its type's bit.
