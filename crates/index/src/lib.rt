@@ -74,7 +74,7 @@ fn unless_shown(shown: bool, number: u64, place: u64, next: IndexStep) -> IndexS
 
 // A version of 64-bit numbers in a box too short for them; the version byte is the n-th.
 pub fn too_short(end: u64, v: u64, n: u64) -> bool
-    requires { ⌜ n ≤ limit ⌝ }
+    requires { ⌜ n ≤ limit + 1 ⌝ }
     ensures { λ r. ⌜ r ≡ (eqb v 1 && ltb end (n + 31)) ⌝ }
 {
     if v == 1 {

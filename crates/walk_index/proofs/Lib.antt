@@ -1,0 +1,5 @@
+pub mod Numbers
+pub mod Stores
+pub mod Entries
+pub mod Walks
+pub mod Answers
