@@ -8,6 +8,10 @@ use Rattle.levels.specs.declared.Still.{Still}
 use Rattle.levels.specs.declared.Still.the-variants as still
 use Rattle.levels.proofs.word_at.Kinds as word-at-kinds
 use Rattle.levels.proofs.word_at.Reads as word-at-stated
+use Rattle.levels.proofs.entry_at.Kinds as entry-at-kinds
+use Rattle.levels.proofs.entry_at.Reads as entry-at-stated
+use Rattle.levels.proofs.entry_answer.Kinds as entry-answer-kinds
+use Rattle.levels.proofs.entry_answer.Reads as entry-answer-stated
 use Rattle.levels.proofs.inmost.Kinds as inmost-kinds
 use Rattle.levels.proofs.inmost.Reads as inmost-stated
 use Rattle.levels.proofs.depth.Kinds as depth-kinds
@@ -24,6 +28,14 @@ use Rattle.levels.proofs.read_back.Reads as read-back-stated
 -- of one work area and place: one number
 pub word-at-once : Coincide 1 word-at-kinds.ps word-at-kinds.r word-at-stated.Post
 word-at-once κs given r r' left left' p q = (p ∙ sym q, refl)
+
+-- of one work area and place: one entry
+pub entry-at-once : Coincide 1 entry-at-kinds.ps entry-at-kinds.r entry-at-stated.Post
+entry-at-once κs given r r' left left' p q = (p ∙ sym q, refl)
+
+-- of one index, an entry, a time and a byte count: one answer
+pub entry-answer-once : Coincide 0 entry-answer-kinds.ps entry-answer-kinds.r entry-answer-stated.Post
+entry-answer-once κs given r r' left left' p q = (p ∙ sym q, refl)
 
 -- of the open indexes: one innermost
 pub inmost-once : OneOutcome 0 inmost-kinds.ps inmost-kinds.r inmost-stated.Pre inmost-stated.Post

@@ -58,3 +58,7 @@ pub entry-law : (w : List ℕ) (i a b c : ℕ) → a ≡ wordAt w i → b ≡ wo
     _≡_ {A = StoredEntry} (record { inner = leb typeBit a; size = a % typeBit; duration = b; sap = c }) (entryAt w i)
 unfolding entryAt
 entry-law w i a b c e k l = rw (e, k, l)
+
+pub entry-small : (w : List ℕ) (i : ℕ) → entryAt w i .size < typeBit
+unfolding entryAt
+entry-small w i = omega arith

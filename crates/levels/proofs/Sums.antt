@@ -1,62 +1,48 @@
--- A sum compared by a difference; and tests joined by "or".
-use Prim.Native.Nat.{ℕ, suc, _+_, _-_, _≤_, _<_}
-use mathlib.Core.Path.{_≡_, refl, sym}
+-- Whether an entry was altered: a sum compared by a difference, and tests one after the other.
+use Prim.Native.Nat.{ℕ, suc, _+_, _-_, _≤_}
+use mathlib.Core.Path.{_≡_, refl}
 use mathlib.Core.Bool.{Bool, true, false, not, _&&_, _||_}
 use native.Mathlib.Omega.{arith}
+use native.Mathlib.Numerals.{add-one}
 use lib.Dec.{eqb, ltb, leb}
-use borrow.Author.Tests.{ltb-true, ltb-false, leb-true, leb-false, eqb-true, eqb-false, lt-ltb, le-ltb, le-leb, lt-leb, eq-eqb, ne-eqb}
+use borrow.Author.Tests.{ltb-true, ltb-false, leb-false, eqb-true, eqb-false, lt-ltb, le-ltb, eq-eqb, ne-eqb}
 use Rattle.basics.proofs.Tests.{or-neither}
 use Rattle.basics.specs.Choose.{pick}
 use Rattle.state.specs.declared.Level.{Level}
 use Rattle.state.specs.Levels.{altered}
 use Rattle.state.specs.declared.StoredEntry.{StoredEntry}
 
-pub is-sum : (a b c : ℕ) → a ≤ c → eqb (c - a) b ≡ eqb (a + b) c
-is-sum a b c h = at (eqb (c - a) b) refl
-  where
-    at : (t : Bool) → eqb (c - a) b ≡ t → t ≡ eqb (a + b) c
-    at true e = let k = eqb-true (c - a) b e in sym (eq-eqb (a + b) c (omega arith))
-    at false e = let k = eqb-false (c - a) b e in sym (ne-eqb (a + b) c (λ z. k (omega arith)))
-
-pub over-sum : (a b c : ℕ) → a ≤ c → ltb (c - a) b ≡ ltb c (a + b)
+over-sum : (a b c : ℕ) → a ≤ c → ltb c (a + b) ≡ ltb (c - a) b
 over-sum a b c h = at (ltb (c - a) b) refl
   where
-    at : (t : Bool) → ltb (c - a) b ≡ t → t ≡ ltb c (a + b)
-    at true e = let k = ltb-true (c - a) b e in sym (lt-ltb c (a + b) (omega arith))
-    at false e = let k = ltb-false (c - a) b e in sym (le-ltb c (a + b) (omega arith))
+    at : (t : Bool) → ltb (c - a) b ≡ t → ltb c (a + b) ≡ t
+    at true e = let k = ltb-true (c - a) b e in lt-ltb c (a + b) (omega arith)
+    at false e = let k = ltb-false (c - a) b e in le-ltb c (a + b) (omega arith)
 
-pub reaches-sum : (a b c : ℕ) → a ≤ c → leb (c - a) b ≡ leb c (a + b)
-reaches-sum a b c h = at (leb (c - a) b) refl
+is-sum : (a b c : ℕ) → a ≤ c → eqb (a + b) c ≡ eqb b (c - a)
+is-sum a b c h = at (eqb b (c - a)) refl
   where
-    at : (t : Bool) → leb (c - a) b ≡ t → t ≡ leb c (a + b)
-    at true e = let k = leb-true (c - a) b e in sym (le-leb c (a + b) (omega arith))
-    at false e = let k = leb-false (c - a) b e in sym (lt-leb c (a + b) (omega arith))
+    at : (t : Bool) → eqb b (c - a) ≡ t → eqb (a + b) c ≡ t
+    at true e = let k = eqb-true b (c - a) e in eq-eqb (a + b) c (omega arith)
+    at false e = let k = eqb-false b (c - a) e in ne-eqb (a + b) c (λ z. k (omega arith))
 
--- the sum is more where one of the two is
-pub is-less : (a b c : ℕ) → c < a → false ≡ eqb (a + b) c
-is-less a b c h = sym (ne-eqb (a + b) c (λ e. omega arith))
+-- tests joined, as they are asked one after the other
+one-by-one : (a b c d f g : Bool) → (a || b) || pick c (not (d && f)) g ≡ pick a true (pick b true (pick c (pick d (not f) true) g))
+unfolding pick
+one-by-one true b c d f g = refl
+one-by-one false true c d f g = refl
+one-by-one false false true true f g = refl
+one-by-one false false true false f g = refl
+one-by-one false false false d f g = refl
 
-pub over-less : (a b c : ℕ) → c < a → true ≡ ltb c (a + b)
-over-less a b c h = sym (lt-ltb c (a + b) (omega arith))
-
-pub reaches-less : (a b c : ℕ) → c < a → true ≡ leb c (a + b)
-reaches-less a b c h = sym (le-leb c (a + b) (omega arith))
-
--- the first, the second, or the third of three tests decides
-pub or-first : (a b c : Bool) → a ≡ true → (a || b) || c ≡ true
-or-first a b c e = rw e
-
-pub or-second : (a b c : Bool) → b ≡ true → (a || b) || c ≡ true
-or-second true b c e = refl
-or-second false b c e = rw e
-
-pub or-third : (a b c : Bool) → a ≡ false → b ≡ false → (a || b) || c ≡ c
-or-third a b c e k = rw (e, k)
-
--- an entry that lasts too long is altered
-pub late : (l : Level) (e : StoredEntry) (now n : ℕ) → ltb (l .until) (now + e .duration) ≡ true → true ≡ altered l e now n
+-- whether an entry was altered, by the time that remains
+pub altered-tests : (l : Level) (e : StoredEntry) (now n : ℕ) → now ≤ l .until →
+    altered l e now n
+    ≡ pick (eqb (e .size) 0) true
+    (pick (ltb (l .until - now) (e .duration)) true
+    (pick (eqb (l .next + 1) (l .count)) (pick (eqb (n + e .size) (l .end)) (not (eqb (e .duration) (l .until - now))) true) (leb (l .end) (n + e .size))))
 unfolding altered
-late l e now n h = sym (or-second (eqb (e .size) 0) _ _ h)
+altered-tests l e now n h = rw (over-sum now (e .duration) (l .until), is-sum now (e .duration) (l .until), ← add-one (l .next)) (one-by-one _ _ _ _ _ _)
 
 -- a number that is all that remains, or less, is no more than it
 whole : (a b : ℕ) (t : Bool) → not (eqb a b && t) ≡ false → a ≤ b

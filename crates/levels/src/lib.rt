@@ -1,11 +1,8 @@
 // Entries read back from the work area, and the indexes that stand open: what the stages of a reading share.
-// A sum that may pass a word's range is never made: it is compared by a difference.
 ghost use mathlib.Core.Path.{_≡_};
-ghost use mathlib.Core.Bool.{_&&_};
 ghost use Prim.Native.Nat.{_+_, _-_, _*_, _<_, _≤_};
-ghost use lib.Dec.{eqb, ltb, leb};
 ghost use lib.ListN.{length};
-ghost use Rattle.segment.specs.Constants.{mostEntries, timeLimit};
+ghost use Rattle.segment.specs.Constants.{limit, mostEntries, timeLimit, typeBit};
 ghost use Rattle.state.specs.Flow.{workBytes};
 ghost use Rattle.state.specs.Levels as defs;
 ghost use Rattle.state.specs.Ranges.{Within, levelsBounds};
@@ -48,7 +45,8 @@ pub fn word_at(work: &[u8], i: usize) -> u64
     ((a * 256 + b) * 256 + c) * 256 + d
 }
 
-fn entry_at(work: &[u8], i: usize) -> StoredEntry
+// The entry that stands in the work area from a place on.
+pub fn entry_at(work: &[u8], i: usize) -> StoredEntry
     requires { ⌜ i + 12 ≤ length (now work) ⌝ }
     ensures { λ r. ⌜ r ≡ defs.entryAt (now (work .entry)) i ⌝ }
 {
@@ -191,60 +189,27 @@ pub fn still_open(ls: Levels) -> Still
     }
 }
 
-// Whether two numbers add up to a third.
-fn sum_is(a: u64, b: u64, c: u64) -> bool
-    ensures { λ r. ⌜ r ≡ eqb (a + b) c ⌝ }
-{
-    if c < a {
-        return false;
-    }
-    c - a == b
-}
-
-// Whether the sum of two numbers is more than a third.
-fn sum_over(c: u64, a: u64, b: u64) -> bool
-    ensures { λ r. ⌜ r ≡ ltb c (a + b) ⌝ }
-{
-    if c < a {
-        return true;
-    }
-    c - a < b
-}
-
-// Whether the sum of two numbers is a third or more.
-fn sum_reaches(c: u64, a: u64, b: u64) -> bool
-    ensures { λ r. ⌜ r ≡ leb c (a + b) ⌝ }
-{
-    if c < a {
-        return true;
-    }
-    c - a <= b
-}
-
-// Whether an entry is all that remains of its index.
-fn fills(l: Level, e: StoredEntry, at: u64, n: u64) -> bool
-    ensures { λ r. ⌜ r ≡ (eqb (n + e .size) (l .end) && eqb (at + e .duration) (l .until)) ⌝ }
-{
-    if sum_is(n, e.size, l.end) {
-        return sum_is(at, e.duration, l.until);
-    }
-    false
-}
-
-// Whether an entry read back at byte `n`, when the time line stands at `at`, cannot be what its index stored.
+// Whether an entry read back at byte `n`, when the time line stands at `at`, cannot be what its index stored. When it ends is a sum
+// that may pass a word's range, so that its duration is compared with the time that remains.
 fn altered(l: Level, e: StoredEntry, at: u64, n: u64) -> bool
+    requires { ⌜ (l .next < l .count) × (at ≤ l .until) × (n ≤ limit) × (e .size < typeBit) ⌝ }
     ensures { λ r. ⌜ r ≡ defs.altered l e at n ⌝ }
 {
     if e.size == 0 {
         return true;
     }
-    if sum_over(l.until, at, e.duration) {
+    let time = l.until - at;
+    if time < e.duration {
         return true;
     }
-    if sum_is(l.next, 1, l.count) {
-        return !fills(l, e, at, n);
+    let end = n + e.size;
+    if l.next + 1 == l.count {
+        if end != l.end {
+            return true;
+        }
+        return e.duration != time;
     }
-    sum_reaches(l.end, n, e.size)
+    l.end <= end
 }
 
 // Where an entry stands, and when it ends.
@@ -260,8 +225,9 @@ fn slot_of(e: StoredEntry, at: u64, n: u64) -> Slot
     }
 }
 
-// What an entry comes to.
-fn entry_answer(l: Level, e: StoredEntry, at: u64, n: u64) -> EntryRead
+// What an entry read back at byte `n`, when the time line stands at `at`, comes to.
+pub fn entry_answer(l: Level, e: StoredEntry, at: u64, n: u64) -> EntryRead
+    requires { ⌜ (l .next < l .count) × (at ≤ l .until) × (n ≤ limit) × (e .size < typeBit) ⌝ }
     ensures { λ r. ⌜ r ≡ readOf l e at n ⌝ }
 {
     if altered(l, e, at, n) {
@@ -272,7 +238,9 @@ fn entry_answer(l: Level, e: StoredEntry, at: u64, n: u64) -> EntryRead
 
 // The next entry of the innermost index, read back at byte `n`, when the time line stands at `at`.
 pub fn read_back(work: &[u8], ls: Levels, at: u64, n: u64) -> EntryRead
-    requires { ⌜ (workBytes ≤ length (now work)) × Within (levelsBounds ls) × (defs.inmost ls .next < defs.inmost ls .count) ⌝ }
+    requires { ⌜
+        (workBytes ≤ length (now work)) × Within (levelsBounds ls) × (defs.inmost ls .next < defs.inmost ls .count) × (at ≤ defs.inmost ls .until) × (n ≤ limit)
+        ⌝ }
     ensures { λ r. ⌜ r ≡ readOf (defs.inmost ls) (defs.entryAt (now (work .entry)) (defs.entryPlace ls)) at n ⌝ }
 {
     let e = next_entry(work, ls);

@@ -106,11 +106,12 @@ module _ (q : Stage) (t : ℕ) where
   gap-within top l end s e w =
       within-second (topBounds top ++ (levelBounds l ++ (atMost t (l .until) ∷ []))) (gapBounds s) (subst (λ (x : Stage). Within (stageBounds x t)) e w)
 
-  pub entry-within : (top : Top) (ls : Levels) → q ≡ stage.Entry top ls → Within (stageBounds q t) → Within (levelsBounds ls) × (inmost ls .next < inmost ls .count)
+  pub entry-within : (top : Top) (ls : Levels) → q ≡ stage.Entry top ls → Within (stageBounds q t) →
+      Within (levelsBounds ls) × (inmost ls .next < inmost ls .count) × (t ≤ inmost ls .until)
   unfolding stageBounds
   entry-within top ls e w =
       let v = three-within (topBounds top) (levelsBounds ls) (below (inmost ls .next) (inmost ls .count) ∷ atMost t (inmost ls .until) ∷ []) (subst (λ (x : Stage). Within (stageBounds x t)) e w) in
-      (v .1, v .2 .0)
+      (v .1, v .2 .0, v .2 .1 .0)
 
   pub leaf-within : (top : Top) (ls : Levels) (slot : Slot) (s : LeafBoxes) → q ≡ stage.Leaf top ls slot s → Within (stageBounds q t) → Within (leafBounds s)
   unfolding stageBounds

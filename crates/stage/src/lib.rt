@@ -163,6 +163,7 @@ fn entry_stage(
 ) -> StageStep
     requires { ⌜
         (n < limit) × (workBytes ≤ length (now work)) × (r .leaves ≤ mostRecords) × Within (levelsBounds ls) × (inmost ls .next < inmost ls .count)
+        × (r .now ≤ inmost ls .until)
         ⌝ }
     ensures { λ q. ⌜
         viewStage (r .leaves) (now (work .exit)) (now (table .exit)) q

@@ -1,5 +1,6 @@
 -- The row that the byte past the limit gives: what is read back before an entry tells, and elsewhere it is 3.
 use mathlib.Core.Path.{_∙_}
+use native.Mathlib.Omega.{arith}
 use Rattle.segment.specs.Constants.{limit}
 use Rattle.machine.specs.Faults.{refusal}
 use Rattle.state.specs.Calls.{flowOf}
@@ -19,7 +20,7 @@ read-back-requires c κs =
     let arm = c .before in
     let d = arm .before .before .before .before in
     let inside = entry-within (d .args .s) (d .args .at) _ _ (arm .s .given .1) (d .pre .1) in
-    (d .pre .0, inside .0, inside .1)
+    (d .pre .0, inside .0, inside .1, inside .2, omega arith)
 
 returns-2 : tie.Need-returns-2
 returns-2 c =

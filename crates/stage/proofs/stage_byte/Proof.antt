@@ -25,7 +25,7 @@ entry-stage-requires c κs =
     let arm = c .before .before .before in
     let start = arm .before .before .before .before in
     let a = start .args in
-    let v = entry-within (a .s) (a .r .now) _ _ (arm .s3 .given .1) (start .pre .3) in (start .pre .0, start .pre .1, start .pre .2, v .0, v .1)
+    let v = entry-within (a .s) (a .r .now) _ _ (arm .s3 .given .1) (start .pre .3) in (start .pre .0, start .pre .1, start .pre .2, v .0, v .1, v .2)
 
 leaf-stage-requires : tie.Need-leaf-stage-requires
 leaf-stage-requires c κs =
