@@ -1,16 +1,15 @@
 -- What goes out of an index: its numbers or its entries are not read, its sums are wrong, or it is read.
-use Prim.Native.Nat.{ℕ, _+_, _*_, _%_, _-_, _≤_}
+use Prim.Native.Nat.{ℕ, _+_, _≤_}
 use mathlib.Core.Path.{_≡_, refl, ap, sym, subst, _∙_}
 use mathlib.Core.List.{List, [], _∷_}
 use mathlib.Core.Bool.{Bool, true, false, not, _||_}
-use mathlib.Core.Logic.{_⊎_, inl, inr}
+use mathlib.Core.Logic.{inl, inr}
 use native.Mathlib.Omega.{arith}
 use lib.Dec.{eqb}
-use lib.ListN.{length, drop}
 use borrow.Author.Tests.{eq-eqb, ne-eqb, ltb-false, leb-false}
 use types.Run.{OneOf}
 use denote.Enum.Declared.{tagOf}
-use Rattle.segment.specs.Constants.{limit, timeLimit, typeBit, entryBytes, mostEntries}
+use Rattle.segment.specs.Constants.{limit, timeLimit}
 use Rattle.machine.specs.Faults.{shows}
 use Rattle.machine.specs.Run.{Res}
 use Rattle.state.specs.declared.Span.{Span}
@@ -22,11 +21,11 @@ use Rattle.index.specs.declared.Where.{Where}
 use Rattle.index.specs.declared.Where.the-variants as places
 use Rattle.index.specs.Views.{placeOf, Shallow}
 use Rattle.index.proofs.Numbers.{part-most}
-use Rattle.descent.specs.Sidx.{closeD, countedD, sidxD}
+use Rattle.descent.specs.Sidx.{closeD, sidxD}
 use Rattle.fields.specs.Answers.{numberAt, stopAt}
 use Rattle.fields.specs.declared.Stop.{Stop}
 use Rattle.fields.specs.Onward.{from}
-use Rattle.walk_index.specs.Parts.{spanAt, wantedOf, draft, sums, fieldsD, FieldsFixed, addedD, EntriesFixed, EntriesWalked, fieldsAnswer, entriesAnswer}
+use Rattle.walk_index.specs.Parts.{spanAt, wantedOf, draft, sums, fieldsD, FieldsFixed, addedD, EntriesFixed, AddedWalked, fieldsAnswer, entriesAnswer}
 use Rattle.walk_index.specs.Views.{indexD, IndexFixed, SumsFit, IndexWalked}
 use Rattle.walk_index.specs.declared.Wanted.{Wanted}
 use Rattle.walk_index.specs.declared.Fields.{Fields}
@@ -37,7 +36,6 @@ use Rattle.walk_index.specs.declared.FieldsRead.the-variants as fields
 use Rattle.walk_index.specs.declared.EntriesRead.{EntriesRead}
 use Rattle.walk_index.proofs.EntriesRead.{the-type as entries-type}
 use Rattle.walk_index.specs.declared.EntriesRead.the-variants as entries
-use Rattle.walk_index.specs.declared.IndexAnswer.{IndexAnswer}
 use Rattle.walk_index.specs.declared.IndexAnswer.the-variants as answer
 use Rattle.walk_index.proofs.Numbers.{shown, hidden}
 
@@ -137,7 +135,7 @@ module _ (p : Where) (when base : ℕ) (s : List ℕ) (pos at end : ℕ) (work :
   }
 
   -- the numbers were read
-  module _ (x : Fields) (ex : r ≡ fields.Read x) (work' : List ℕ) (q : EntriesRead) (walked : EntriesWalked s pos (x .«from») end (w .part) work work' q) where
+  module _ (x : Fields) (ex : r ≡ fields.Read x) (work' : List ℕ) (q : EntriesRead) (walked : AddedWalked s pos (x .«from») end (w .part) work work' q) where
     abbrev d : Draft
     d = draft (eqb (numberAt 1 s at) 1) (x .id) (x .scale) (x .time) (x .offset)
 

@@ -17,22 +17,15 @@ use Rattle.segment.specs.Constants.{typeBit, entryBytes}
 use Rattle.machine.specs.Faults.{refusal}
 use Rattle.machine.specs.Run.{Res, fail, cut, fieldD}
 use Rattle.state.specs.declared.Span.{Span}
-use Rattle.state.specs.declared.Draft.{Draft}
 use Rattle.state.specs.declared.Sums.{Sums}
 use Rattle.state.specs.declared.IndexRead.{IndexRead}
 use Rattle.state.specs.declared.EntryPart.{EntryPart}
 use Rattle.state.specs.declared.EntryPart.the-variants as entry
 use Rattle.state.specs.Flow.{Flow, Left, left, withWork}
-use Rattle.state.specs.Sidx.{Place, partOf, wordPlace, numberPlace, keepByte, plusSize, plusDuration, nextEntry, indexOf}
-use Rattle.state.specs.Ranges.{wordLimit}
-use Rattle.descent.specs.Sidx.{closeD, entryD, entriesD, countedD}
-use Rattle.fields.specs.Answers.{numberAt, stopAt}
-use Rattle.fields.specs.Onward.{stopped, ended, from}
-use Rattle.walk_index.specs.Parts.{spanAt, sums, takenD, addedD, EntryWalked, PartWalked, EntriesWalked}
-use Rattle.walk_index.specs.declared.EntryTaken.{EntryTaken}
-use Rattle.walk_index.specs.declared.EntryTaken.the-variants as taken
-use Rattle.walk_index.specs.declared.EntriesRead.{EntriesRead}
-use Rattle.walk_index.specs.declared.EntriesRead.the-variants as entries
+use Rattle.state.specs.Sidx.{Place, partOf, wordPlace, numberPlace, keepByte, plusSize, plusDuration}
+use Rattle.descent.specs.Sidx.{entryD}
+use Rattle.fields.specs.Answers.{numberAt}
+use Rattle.fields.specs.Onward.{ended, from}
 use Rattle.walk_index.proofs.Numbers.{shown, hidden}
 
 abbrev Res' : Type 0

@@ -3,3 +3,4 @@ pub mod Stores
 pub mod Entries
 pub mod Walks
 pub mod Answers
+pub mod OneOutcome

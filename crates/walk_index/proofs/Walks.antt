@@ -6,7 +6,7 @@ use mathlib.Core.Bool.{Bool, true, false, _&&_}
 use native.Mathlib.Omega.{arith}
 use lib.Dec.{eqb, leb}
 use lib.ListN.{length, take, drop}
-use borrow.Author.Tests.{eq-eqb, ne-eqb, leb-true}
+use borrow.Author.Tests.{ne-eqb}
 use Rattle.basics.specs.Put.{putAll}
 use Rattle.basics.proofs.Put.{put-length}
 use Rattle.segment.specs.Constants.{typeBit, entryBytes}
@@ -22,8 +22,8 @@ use Rattle.state.specs.Ranges.{wordLimit}
 use Rattle.descent.specs.Sidx.{closeD, entryD, entriesD, countedD}
 use Rattle.fields.specs.Answers.{numberAt, stopAt}
 use Rattle.fields.specs.declared.Stop.{Stop}
-use Rattle.fields.specs.Onward.{stopped, ended, from}
-use Rattle.walk_index.specs.Parts.{spanAt, sums, takenD, TakenFixed, addedD, EntryWalked, PartWalked, EntriesWalked}
+use Rattle.fields.specs.Onward.{ended, from}
+use Rattle.walk_index.specs.Parts.{spanAt, sums, takenD, TakenFixed, addedD, EntryWalked, PartWalked, AddedWalked}
 use Rattle.walk_index.specs.declared.EntryTaken.{EntryTaken}
 use Rattle.walk_index.specs.declared.EntryTaken.the-variants as taken
 use Rattle.walk_index.specs.declared.EntriesRead.{EntriesRead}
@@ -108,7 +108,7 @@ module _ (p : Place) (span : Span) (d : Draft) where
   rest-next (suc k) t f n bs = refl
 
 -- Entries passed: what is read from here is what is read from the first one on.
-pub record Passed (s : List ℕ) (pos from' end part : ℕ) (work₀ : List ℕ) (sizes durations i j : ℕ) (work : List ℕ) : Type 0 where
+pub record EntriesSo (s : List ℕ) (pos from' end part : ℕ) (work₀ : List ℕ) (sizes durations i j : ℕ) (work : List ℕ) : Type 0 where
   pub done : ℕ
   pub place : i ≡ part + entryBytes * done
   pub next : j ≡ from' + entryBytes * done
@@ -122,7 +122,7 @@ pub record Passed (s : List ℕ) (pos from' end part : ℕ) (work₀ : List ℕ)
       ≡ from left base s (withWork f work₀) (countedD p (spanAt base pos end) d count count) from'
 
 module _ (s : List ℕ) (pos at end part : ℕ) (work₀ : List ℕ) where
-  pub passed-first : at ≤ end → at ≤ length s → Passed s pos at end part work₀ 0 0 part at work₀
+  pub passed-first : at ≤ end → at ≤ length s → EntriesSo s pos at end part work₀ 0 0 part at work₀
   passed-first h k = record {
     done = 0;
     place = omega arith;
@@ -138,7 +138,7 @@ module _ (s : List ℕ) (pos at end part : ℕ) (work₀ : List ℕ) where
         ∙ rest-counted p (spanAt base pos end) d count count (withWork f work₀) (base + at) (drop at s);
   }
 
-  module _ (sizes durations i j : ℕ) (work : List ℕ) (so : Passed s pos at end part work₀ sizes durations i j work) where
+  module _ (sizes durations i j : ℕ) (work : List ℕ) (so : EntriesSo s pos at end part work₀ sizes durations i j work) where
     -- what an entry is read for, with others to come
     abbrev onD : Place → Draft → ℕ → ℕ → Sums → Flow → ℕ → List ℕ → Res'
     onD p d base k u g m cs = restD p (spanAt base pos end) d k (nextEntry u) g m cs
@@ -157,7 +157,7 @@ module _ (s : List ℕ) (pos at end part : ℕ) (work₀ : List ℕ) where
 
     module _ (work' : List ℕ) {r : EntryTaken} (walked : EntryWalked s i j work work' r) where
       pub passed-next : {size duration : ℕ} → r ≡ taken.Read size duration → j + 12 ≤ end → j + 12 ≤ length s →
-          Passed s pos at end part work₀ (sizes + size) (durations + duration) (i + 12) (j + 12) work'
+          EntriesSo s pos at end part work₀ (sizes + size) (durations + duration) (i + 12) (j + 12) work'
       unfolding takenD
       passed-next {size} {duration} e h k =
           let w : EntryWalked s i j work work' (taken.Read size duration) = rw e at walked in
@@ -175,7 +175,7 @@ module _ (s : List ℕ) (pos at end part : ℕ) (work₀ : List ℕ) where
                 ∙ at-entry (omega arith) p d count base f hp q;
           }
 
-      pub passed-refused : r ≡ taken.Bad → (x : Stop) → x ≡ stopAt 11 pos (j + 4) → j + 12 ≤ end → pos ≤ end → EntriesWalked s pos at end part work₀ work' (entries.Bad x)
+      pub passed-refused : r ≡ taken.Bad → (x : Stop) → x ≡ stopAt 11 pos (j + 4) → j + 12 ≤ end → pos ≤ end → AddedWalked s pos at end part work₀ work' (entries.Bad x)
       unfolding takenD addedD
       passed-refused e x q h k =
           let w : EntryWalked s i j work work' taken.Bad = rw e at walked in
@@ -187,7 +187,7 @@ module _ (s : List ℕ) (pos at end part : ℕ) (work₀ : List ℕ) where
             fixed = (refl, k, omega arith);
           })
 
-    pub passed-part : (work' : List ℕ) (r : EntriesRead) → j < end → PartWalked s pos i j end work work' r → EntriesWalked s pos at end part work₀ work' r
+    pub passed-part : (work' : List ℕ) (r : EntriesRead) → j < end → PartWalked s pos i j end work work' r → AddedWalked s pos at end part work₀ work' r
     passed-part work' r h w = record {
       right = λ p d count base f hp q.
           w .right p d count base (spanAt base pos end) (onD p d base (count - suc (so .done))) (sums (so .done) count sizes durations) f (at-place p hp) refl
@@ -196,7 +196,7 @@ module _ (s : List ℕ) (pos at end part : ℕ) (work₀ : List ℕ) where
       fixed = w .fixed at;
     }
 
-    pub passed-last : end ≤ j → EntriesWalked s pos at end part work₀ work (entries.Read (record { sizes = sizes; durations = durations }))
+    pub passed-last : end ≤ j → AddedWalked s pos at end part work₀ work (entries.Read (record { sizes = sizes; durations = durations }))
     unfolding restD addedD
     passed-last h =
         let e : j ≡ end = omega (arith, so .within) in

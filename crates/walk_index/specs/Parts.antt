@@ -3,7 +3,7 @@ use Prim.Native.Nat.{ℕ, _+_, _*_, _/_, _%_, _≤_, _<_}
 use mathlib.Core.Path.{_≡_}
 use mathlib.Core.Bool.{Bool, true, false}
 use mathlib.Core.List.{List, [], _∷_}
-use lib.ListN.{length, drop}
+use lib.ListN.{length}
 use Rattle.segment.specs.Constants.{typeBit, entryBytes, mostEntries}
 use Rattle.machine.specs.Faults.{refusal}
 use Rattle.machine.specs.Run.{Res, fail}
@@ -18,7 +18,6 @@ use Rattle.descent.specs.Sidx.{closeD, entryD, countedD}
 use Rattle.fields.specs.declared.Stop.{Stop}
 use Rattle.fields.specs.Onward.{stopped, ended, from}
 use Rattle.walk_index.specs.declared.Wanted.{Wanted}
-use Rattle.walk_index.specs.declared.Fields.{Fields}
 use Rattle.walk_index.specs.declared.FieldsRead.{FieldsRead}
 use Rattle.walk_index.specs.declared.FieldsRead.the-variants as fields
 use Rattle.walk_index.specs.declared.EntryTaken.{EntryTaken}
@@ -105,7 +104,7 @@ pub record PartWalked (s : List ℕ) (pos i j end : ℕ) (work work' : List ℕ)
   pub fixed : (from : ℕ) → EntriesFixed s from end r
 
 -- The entries from `at` to `end` are read as the descent reads them, and stored from `part` on.
-pub record EntriesWalked (s : List ℕ) (pos at end part : ℕ) (work work' : List ℕ) (r : EntriesRead) : Type 0 where
+pub record AddedWalked (s : List ℕ) (pos at end part : ℕ) (work work' : List ℕ) (r : EntriesRead) : Type 0 where
   pub right : (p : Place) (d : Draft) (count base : ℕ) (f : Flow) → partOf p ≡ part → end ≡ at + entryBytes * count →
       addedD p (spanAt base pos end) d count end base s (withWork f work') r ≡ from left base s (withWork f work) (countedD p (spanAt base pos end) d count count) at
   pub long : length work' ≡ length work

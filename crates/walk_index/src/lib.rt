@@ -14,7 +14,7 @@ ghost use Rattle.index.specs.Views.{placeOf, Shallow, Timely};
 ghost use Rattle.descent.specs.Sidx.{reservedD, timeD, flagsD, sidxD};
 ghost use Rattle.fields.specs.Answers.{farthest, numberAt, fieldAt};
 ghost use Rattle.fields.specs.Onward.{from};
-ghost use Rattle.walk_index.specs.Parts.{spanAt, wantedOf, draft, fieldsD, FieldsFixed, wordBytes, EntryWalked, PartWalked, EntriesWalked, fieldsAnswer, entriesAnswer};
+ghost use Rattle.walk_index.specs.Parts.{spanAt, wantedOf, draft, fieldsD, FieldsFixed, wordBytes, EntryWalked, PartWalked, AddedWalked, fieldsAnswer, entriesAnswer};
 ghost use Rattle.walk_index.specs.Views.{IndexWalked};
 use fields::FieldRead;
 use fields::Stop;
@@ -82,6 +82,7 @@ struct Wanted {
     pub part: u64,
 }
 
+// What an index has to be where it stands.
 fn wanted_at(p: Where) -> Wanted
     requires { ⌜ Shallow p ⌝ }
     ensures { λ r. ⌜ r ≡ wantedOf (placeOf p) ⌝ }
@@ -238,14 +239,7 @@ fn read_ids(
 }
 
 // The numbers of the index at `pos` before its entries, from `at` on.
-fn read_fields(
-    w: Wanted,
-    when: u64,
-    bytes: &[u8],
-    pos: usize,
-    at: usize,
-    end: usize,
-) -> FieldsRead
+fn read_fields(w: Wanted, when: u64, bytes: &[u8], pos: usize, at: usize, end: usize) -> FieldsRead
     requires { ⌜ (pos ≤ at) × (at ≤ end) × (end ≤ limit) × (at ≤ length (now bytes)) ⌝ }
     ensures { λ r. ⌜
         ((p : Place) (base : ℕ) (f : Flow) → wantedOf p ≡ w → f .now ≡ when →
@@ -372,7 +366,7 @@ fn read_entries(
     part: usize,
 ) -> EntriesRead
     requires { ⌜ (from ≤ end) × ((end - from) % entryBytes ≡ 0) × (end ≤ limit) × (pos ≤ end) × (from ≤ length (now bytes)) × (part + (end - from) ≤ length (now work)) ⌝ }
-    ensures { λ r. ⌜ EntriesWalked (now (bytes .entry)) pos from end part (now (work .entry)) (now (work .exit)) r ⌝ }
+    ensures { λ r. ⌜ AddedWalked (now (bytes .entry)) pos from end part (now (work .entry)) (now (work .exit)) r ⌝ }
 {
     let mut sizes: u64 = 0;
     let mut durations: u64 = 0;

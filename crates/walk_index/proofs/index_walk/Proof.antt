@@ -1,9 +1,6 @@
 -- `walk_index::index_walk` meets its contract, by those of the functions that it calls, and by the laws of what goes out of an index.
-use Prim.Native.Nat.{ℕ, _+_, _*_, _≤_}
-use mathlib.Core.Path.{_≡_, refl, sym, _∙_}
 use native.Mathlib.Omega.{arith}
 use denote.Ref.{now}
-use lib.ListN.{length}
 use Rattle.walk_index.proofs.Answers.{fields-read, entries-read, part-small, numbers-out, entries-stop, sums-wrong, sums-right}
 use borrow.Author.Needs.{needs}
 use Rattle.walk_index.proofs.index_walk.Statement.{statement}

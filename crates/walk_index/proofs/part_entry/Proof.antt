@@ -1,9 +1,7 @@
 -- `walk_index::part_entry` meets its contract, by those of `no_size`, `copy_word`, `stop_at` and `store_rest`, and by the laws `part-refused` and `part-ended`.
-use Prim.Native.Nat.{ℕ, _+_, _≤_}
-use mathlib.Core.Path.{_≡_, sym, _∙_}
+use mathlib.Core.Path.{sym, _∙_}
 use native.Mathlib.Omega.{arith}
 use denote.Ref.{now}
-use lib.ListN.{length}
 use borrow.Author.Tests.{leb-true}
 use Rattle.walk_index.proofs.Walks.{part-refused, part-ended, both-hold}
 use borrow.Author.Needs.{needs}

@@ -1,6 +1,5 @@
 -- `walk_index::read_count` meets its contract, by those of `read_field`, `no_count` and `stop_at`, and by the laws of a count.
-use Prim.Native.Nat.{_+_, _*_, _≤_}
-use mathlib.Core.Path.{_≡_, refl, sym, _∙_}
+use mathlib.Core.Path.{refl, sym, _∙_}
 use native.Mathlib.Omega.{arith}
 use denote.Ref.{now}
 use Rattle.fields.proofs.Answers.{field-in, field-small}
@@ -41,7 +40,7 @@ returns-2 c =
     let whole = field-in (now (a .bytes)) (a .at) 2 _ _ (sym (read .read-field .ensures .0) ∙ got .got .given .1) in
     rw (c .stop-at .ensures) (
       λ p wide base f i there here.
-      sym (past-count p base _ _ _ f _ _ _ _ i (got .got .given .1) here (read .read-field .ensures .0) there ∙ count-long p base _ _ _ f _ _ _ (test .if1 .taken)),
+          sym (past-count p base _ _ _ f _ _ _ _ i (got .got .given .1) here (read .read-field .ensures .0) there ∙ count-long p base _ _ _ f _ _ _ (test .if1 .taken)),
       (refl, omega arith, omega arith),
     )
 
@@ -58,8 +57,8 @@ returns-3 c =
     let whole = field-in (now (a .bytes)) (a .at) 2 _ _ (sym (read .read-field .ensures .0) ∙ got .got .given .1) in
     rw (c .stop-at2 .ensures) (
       λ p wide base f i there here.
-      sym (past-count p base _ _ _ f _ _ _ _ i (got .got .given .1) here (read .read-field .ensures .0) there
-      ∙ count-wrong p base _ _ _ f _ _ _ (test .if1 .left) (sym (counted .no-count .ensures) ∙ none .if2 .taken)),
+          sym (past-count p base _ _ _ f _ _ _ _ i (got .got .given .1) here (read .read-field .ensures .0) there
+          ∙ count-wrong p base _ _ _ f _ _ _ (test .if1 .left) (sym (counted .no-count .ensures) ∙ none .if2 .taken)),
       (refl, omega arith, omega arith),
     )
 
@@ -74,7 +73,7 @@ returns-4 c =
     let some = sym (counted .no-count .ensures) ∙ c .if2 .left in
     let whole = field-in (now (a .bytes)) (a .at) 2 _ _ (sym (read .read-field .ensures .0) ∙ got .got .given .1) in (
       λ p wide base f i there here.
-      sym (past-count p base _ _ _ f _ _ _ _ i (got .got .given .1) here (read .read-field .ensures .0) there ∙ count-read p base _ _ _ f _ _ _ (test .if1 .left) some),
+          sym (past-count p base _ _ _ f _ _ _ _ i (got .got .given .1) here (read .read-field .ensures .0) there ∙ count-read p base _ _ _ f _ _ _ (test .if1 .left) some),
       (right-count _ some .0, right-count _ some .1, whole .inside, test .if1 .left),
     )
 

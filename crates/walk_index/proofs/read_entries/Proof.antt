@@ -1,20 +1,16 @@
--- `walk_index::read_entries` meets its contract. The loop's invariant, `Passed`: what is read from here is what is read from the first entry on; the measure is
+-- `walk_index::read_entries` meets its contract. The loop's invariant, `EntriesSo`: what is read from here is what is read from the first entry on; the measure is
 -- the bytes to come.
-use Prim.Native.Nat.{ℕ, _+_, _-_, _≤_, _<_}
-use mathlib.Core.Path.{_≡_, refl, sym, _∙_}
+use Prim.Native.Nat.{_-_}
+use mathlib.Core.Path.{_∙_}
 use native.Mathlib.Omega.{arith}
 use denote.Ref.{now}
-use lib.ListN.{length}
-use Rattle.walk_index.specs.Parts.{TakenFixed}
-use Rattle.walk_index.specs.declared.EntryTaken.{EntryTaken}
-use Rattle.walk_index.specs.declared.EntryTaken.the-variants as taken
-use Rattle.walk_index.proofs.Walks.{Passed, passed-first, passed-next, passed-refused, passed-part, passed-last, taken-small}
+use Rattle.walk_index.proofs.Walks.{EntriesSo, passed-first, passed-next, passed-refused, passed-part, passed-last, taken-small}
 use borrow.Author.Needs.{needs}
 use Rattle.walk_index.proofs.read_entries.Statement.{statement}
 use Rattle.walk_index.proofs.read_entries.Tie as tie
 
 abbrev Inv-loop : tie.InvT-loop
-Inv-loop bytes pos from end work₀ part sizes₀ durations₀ i₀ j₀ have work sizes durations i j = Passed bytes pos from end part work₀ sizes durations i j work
+Inv-loop bytes pos from end work₀ part sizes₀ durations₀ i₀ j₀ have work sizes durations i j = EntriesSo bytes pos from end part work₀ sizes durations i j work
 
 abbrev μ-loop : tie.MeasureT-loop
 μ-loop bytes pos from end work₀ part sizes₀ durations₀ i₀ j₀ have work sizes durations i j = end - j

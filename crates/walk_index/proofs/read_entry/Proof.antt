@@ -1,6 +1,6 @@
 -- `walk_index::read_entry` meets its contract, by those of `copy_word`, `word_at` and `copy_two`, and by the laws `entry-refused` and `entry-taken`.
-use Prim.Native.Nat.{ℕ, _+_, _%_, _≤_}
-use mathlib.Core.Path.{_≡_, refl, ap, _∙_}
+use Prim.Native.Nat.{ℕ, _+_, _%_}
+use mathlib.Core.Path.{_≡_, ap, _∙_}
 use mathlib.Core.List.{List}
 use native.Mathlib.Omega.{arith}
 use denote.Ref.{now}

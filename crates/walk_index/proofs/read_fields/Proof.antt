@@ -1,6 +1,5 @@
 -- `walk_index::read_fields` meets its contract, by those of `read_field`, `too_short`, `stop_at` and `read_ids`, and by the laws of a version.
-use Prim.Native.Nat.{_+_, _≤_}
-use mathlib.Core.Path.{_≡_, refl, sym, _∙_}
+use mathlib.Core.Path.{refl, sym, _∙_}
 use native.Mathlib.Omega.{arith}
 use denote.Ref.{now}
 use borrow.Author.Tests.{lt-ltb, le-ltb}
@@ -40,8 +39,8 @@ returns-2 c =
     let whole = field-in (now (a .bytes)) (a .at) 1 _ _ (sym (read .read-field .ensures .0) ∙ got .got .given .1) in
     rw (c .stop-at .ensures) (
       λ p base f hp hn.
-      sym (read-in base _ f _ _ _ (read .read-field .ensures .0) (start .pre .3) (got .got .given .1)
-      ∙ version-short p base _ _ _ f _ _ (sym (short .too-short .ensures) ∙ test .if1 .taken)),
+          sym (read-in base _ f _ _ _ (read .read-field .ensures .0) (start .pre .3) (got .got .given .1)
+          ∙ version-short p base _ _ _ f _ _ (sym (short .too-short .ensures) ∙ test .if1 .taken)),
       (refl, omega arith, omega arith),
     )
 
@@ -59,8 +58,8 @@ returns-3 c =
     let whole = field-in (now (a .bytes)) (a .at) 1 _ _ (sym (read .read-field .ensures .0) ∙ got .got .given .1) in
     rw (c .stop-at2 .ensures) (
       λ p base f hp hn.
-      sym (read-in base _ f _ _ _ (read .read-field .ensures .0) (start .pre .3) (got .got .given .1)
-      ∙ version-other p base _ _ _ f _ _ (sym (short .too-short .ensures) ∙ test .if1 .left) (lt-ltb _ _ (above .if2 .taken))),
+          sym (read-in base _ f _ _ _ (read .read-field .ensures .0) (start .pre .3) (got .got .given .1)
+          ∙ version-other p base _ _ _ f _ _ (sym (short .too-short .ensures) ∙ test .if1 .left) (lt-ltb _ _ (above .if2 .taken))),
       (refl, omega arith, omega arith),
     )
 
@@ -93,9 +92,9 @@ returns-4 c =
     let a = start .args in
     let whole = field-in (now (a .bytes)) (a .at) 1 _ _ (sym (read .read-field .ensures .0) ∙ got .got .given .1) in (
       λ p base f hp hn.
-      rw (← whole .value) (c .read-ids .ensures .0 p base f _ hp hn refl (whole .inside)
-      ∙ sym (read-in base _ f _ _ _ (read .read-field .ensures .0) (start .pre .3) (got .got .given .1)
-      ∙ version-read p base _ _ _ f _ _ (sym (short .too-short .ensures) ∙ test .if1 .left) (le-ltb _ _ (above .if2 .left)))),
+          rw (← whole .value) (c .read-ids .ensures .0 p base f _ hp hn refl (whole .inside)
+          ∙ sym (read-in base _ f _ _ _ (read .read-field .ensures .0) (start .pre .3) (got .got .given .1)
+          ∙ version-read p base _ _ _ f _ _ (sym (short .too-short .ensures) ∙ test .if1 .left) (le-ltb _ _ (above .if2 .left)))),
       c .read-ids .ensures .1,
     )
 

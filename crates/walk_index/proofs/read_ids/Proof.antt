@@ -1,6 +1,5 @@
 -- `walk_index::read_ids` meets its contract, by those of `read_field`, `differs`, `stop_at` and `read_times`, and by the laws of a reference ID and a timescale.
-use Prim.Native.Nat.{_+_, _≤_}
-use mathlib.Core.Path.{_≡_, refl, ap, sym, _∙_}
+use mathlib.Core.Path.{refl, ap, sym, _∙_}
 use native.Mathlib.Omega.{arith}
 use denote.Ref.{now}
 use borrow.Author.Tests.{eq-eqb, ne-eqb}
@@ -31,8 +30,8 @@ returns-2 c =
     let whole = field-in (now (a .bytes)) (a .at) 4 _ _ (sym (read .read-field .ensures .0) ∙ got .got .given .1) in
     rw (c .stop-at .ensures) (
       λ p base f i hp hn there here.
-      sym (past-id p base _ _ _ f _ _ _ _ i (got .got .given .1) here (read .read-field .ensures .0) there
-      ∙ id-other p base _ _ _ f _ _ _ (rw hp (sym (diff .differs .ensures) ∙ test .if1 .taken))),
+          sym (past-id p base _ _ _ f _ _ _ _ i (got .got .given .1) here (read .read-field .ensures .0) there
+          ∙ id-other p base _ _ _ f _ _ _ (rw hp (sym (diff .differs .ensures) ∙ test .if1 .taken))),
       (refl, omega arith, omega arith),
     )
 
@@ -56,9 +55,9 @@ returns-3 c =
     let a = read .before .before .args in
     let whole = field-in (now (a .bytes)) (a .at) 4 _ _ (sym (read .read-field .ensures .0) ∙ got .got .given .1) in (
       λ p base f i hp hn there here.
-      sym (past-id p base _ _ _ f _ _ _ _ i (got .got .given .1) here (read .read-field .ensures .0) there
-      ∙ id-read p base _ _ _ f _ _ _ (rw hp (sym (diff .differs .ensures) ∙ test .if1 .left))
-      ∙ read-out base _ f _ _ _ (read2 .read-field2 .ensures .0) (whole .inside) (c .enum-told2 .given .1)),
+          sym (past-id p base _ _ _ f _ _ _ _ i (got .got .given .1) here (read .read-field .ensures .0) there
+          ∙ id-read p base _ _ _ f _ _ _ (rw hp (sym (diff .differs .ensures) ∙ test .if1 .left))
+          ∙ read-out base _ f _ _ _ (read2 .read-field2 .ensures .0) (whole .inside) (c .enum-told2 .given .1)),
       tt,
     )
 
@@ -78,10 +77,10 @@ returns-4 c =
     let whole2 = field-in (now (a .bytes)) _ 4 _ _ (sym (read2 .read-field2 .ensures .0) ∙ more .more .given .1) in
     rw (c .stop-at2 .ensures) (
       λ p base f i hp hn there here.
-      sym (past-id p base _ _ _ f _ _ _ _ i (got .got .given .1) here (read .read-field .ensures .0) there
-      ∙ id-read p base _ _ _ f _ _ _ (rw hp (sym (diff .differs .ensures) ∙ test .if1 .left))
-      ∙ read-in base _ f _ _ _ (read2 .read-field2 .ensures .0) (whole .inside) (more .more .given .1)
-      ∙ scale-none p base _ _ _ f _ _ _ (eq-eqb _ _ (none .if2 .taken))),
+          sym (past-id p base _ _ _ f _ _ _ _ i (got .got .given .1) here (read .read-field .ensures .0) there
+          ∙ id-read p base _ _ _ f _ _ _ (rw hp (sym (diff .differs .ensures) ∙ test .if1 .left))
+          ∙ read-in base _ f _ _ _ (read2 .read-field2 .ensures .0) (whole .inside) (more .more .given .1)
+          ∙ scale-none p base _ _ _ f _ _ _ (eq-eqb _ _ (none .if2 .taken))),
       (refl, omega arith, omega arith),
     )
 
@@ -103,10 +102,10 @@ returns-5 c =
     let whole2 = field-in (now (a .bytes)) _ 4 _ _ (sym (read2 .read-field2 .ensures .0) ∙ more .more .given .1) in
     rw (c .stop-at3 .ensures) (
       λ p base f i hp hn there here.
-      sym (past-id p base _ _ _ f _ _ _ _ i (got .got .given .1) here (read .read-field .ensures .0) there
-      ∙ id-read p base _ _ _ f _ _ _ (rw hp (sym (diff .differs .ensures) ∙ test .if1 .left))
-      ∙ read-in base _ f _ _ _ (read2 .read-field2 .ensures .0) (whole .inside) (more .more .given .1)
-      ∙ scale-other p base _ _ _ f _ _ _ (ne-eqb _ _ (none .if2 .left)) (rw hp (sym (diff2 .differs2 .ensures) ∙ test2 .if3 .taken))),
+          sym (past-id p base _ _ _ f _ _ _ _ i (got .got .given .1) here (read .read-field .ensures .0) there
+          ∙ id-read p base _ _ _ f _ _ _ (rw hp (sym (diff .differs .ensures) ∙ test .if1 .left))
+          ∙ read-in base _ f _ _ _ (read2 .read-field2 .ensures .0) (whole .inside) (more .more .given .1)
+          ∙ scale-other p base _ _ _ f _ _ _ (ne-eqb _ _ (none .if2 .left)) (rw hp (sym (diff2 .differs2 .ensures) ∙ test2 .if3 .taken))),
       (refl, omega arith, omega arith),
     )
 
@@ -137,11 +136,11 @@ returns-6 c =
     let a = read .before .before .args in
     let whole = field-in (now (a .bytes)) (a .at) 4 _ _ (sym (read .read-field .ensures .0) ∙ got .got .given .1) in (
       λ p base f i hp hn there here.
-      c .read-times .ensures .0 p base f (ap (λ (w : Wanted). w .inner) hp) hn
-      ∙ sym (past-id p base _ _ _ f _ _ _ _ i (got .got .given .1) here (read .read-field .ensures .0) there
-      ∙ id-read p base _ _ _ f _ _ _ (rw hp (sym (diff .differs .ensures) ∙ test .if1 .left))
-      ∙ read-in base _ f _ _ _ (read2 .read-field2 .ensures .0) (whole .inside) (more .more .given .1)
-      ∙ scale-read p base _ _ _ f _ _ _ (ne-eqb _ _ (none .if2 .left)) (rw hp (sym (diff2 .differs2 .ensures) ∙ test2 .if3 .left))),
+          c .read-times .ensures .0 p base f (ap (λ (w : Wanted). w .inner) hp) hn
+          ∙ sym (past-id p base _ _ _ f _ _ _ _ i (got .got .given .1) here (read .read-field .ensures .0) there
+          ∙ id-read p base _ _ _ f _ _ _ (rw hp (sym (diff .differs .ensures) ∙ test .if1 .left))
+          ∙ read-in base _ f _ _ _ (read2 .read-field2 .ensures .0) (whole .inside) (more .more .given .1)
+          ∙ scale-read p base _ _ _ f _ _ _ (ne-eqb _ _ (none .if2 .left)) (rw hp (sym (diff2 .differs2 .ensures) ∙ test2 .if3 .left))),
       c .read-times .ensures .1,
     )
 

@@ -1,6 +1,6 @@
 -- `walk_index::read_times` meets its contract, by those of `read_sized`, `differs`, `stop_at` and `read_count`, and by the laws of a start time and a first offset.
-use Prim.Native.Nat.{suc, _+_, _≤_}
-use mathlib.Core.Path.{_≡_, refl, sym, _∙_}
+use Prim.Native.Nat.{suc}
+use mathlib.Core.Path.{refl, sym, _∙_}
 use native.Mathlib.Omega.{arith}
 use denote.Ref.{now}
 use Rattle.state.specs.Sidx.{wideMore}
@@ -32,8 +32,8 @@ returns-2 c =
     let few = wide-most (a .big) in
     rw (c .stop-at .ensures) (
       λ p base f hp hn.
-      sym (read-in base _ f _ _ _ (read .read-sized .ensures) (start .pre .3) (got .got .given .1)
-      ∙ time-other p base _ _ _ f _ _ _ (rw (hp, hn) (sym (diff .differs .ensures) ∙ test .if1 .taken))),
+          sym (read-in base _ f _ _ _ (read .read-sized .ensures) (start .pre .3) (got .got .given .1)
+          ∙ time-other p base _ _ _ f _ _ _ (rw (hp, hn) (sym (diff .differs .ensures) ∙ test .if1 .taken))),
       (refl, omega arith, omega arith),
     )
 
@@ -59,9 +59,9 @@ returns-3 c =
     let a = start .args in
     let whole = field-in (now (a .bytes)) (a .at) (suc (wideMore (a .big))) _ _ (sym (read .read-sized .ensures) ∙ got .got .given .1) in (
       λ p base f hp hn.
-      sym (read-in base _ f _ _ _ (read .read-sized .ensures) (start .pre .3) (got .got .given .1)
-      ∙ time-read p base _ _ _ f _ _ _ (rw (hp, hn) (sym (diff .differs .ensures) ∙ test .if1 .left))
-      ∙ read-out base _ f _ _ _ (read2 .read-sized2 .ensures) (whole .inside) (c .enum-told2 .given .1)),
+          sym (read-in base _ f _ _ _ (read .read-sized .ensures) (start .pre .3) (got .got .given .1)
+          ∙ time-read p base _ _ _ f _ _ _ (rw (hp, hn) (sym (diff .differs .ensures) ∙ test .if1 .left))
+          ∙ read-out base _ f _ _ _ (read2 .read-sized2 .ensures) (whole .inside) (c .enum-told2 .given .1)),
       tt,
     )
 
@@ -84,10 +84,10 @@ returns-4 c =
     let few = wide-most (a .big) in
     rw (c .stop-at2 .ensures) (
       λ p base f hp hn.
-      sym (read-in base _ f _ _ _ (read .read-sized .ensures) (start .pre .3) (got .got .given .1)
-      ∙ time-read p base _ _ _ f _ _ _ (rw (hp, hn) (sym (diff .differs .ensures) ∙ test .if1 .left))
-      ∙ read-in base _ f _ _ _ (read2 .read-sized2 .ensures) (whole .inside) (more .more .given .1)
-      ∙ offset-other p base _ _ _ f _ _ _ (rw hp (sym (diff2 .differs2 .ensures) ∙ test2 .if2 .taken))),
+          sym (read-in base _ f _ _ _ (read .read-sized .ensures) (start .pre .3) (got .got .given .1)
+          ∙ time-read p base _ _ _ f _ _ _ (rw (hp, hn) (sym (diff .differs .ensures) ∙ test .if1 .left))
+          ∙ read-in base _ f _ _ _ (read2 .read-sized2 .ensures) (whole .inside) (more .more .given .1)
+          ∙ offset-other p base _ _ _ f _ _ _ (rw hp (sym (diff2 .differs2 .ensures) ∙ test2 .if2 .taken))),
       (refl, omega arith, omega arith),
     )
 
@@ -132,11 +132,11 @@ returns-5 c =
     let whole = field-in (now (a .bytes)) (a .at) (suc (wideMore (a .big))) _ _ (sym (read .read-sized .ensures) ∙ got .got .given .1) in
     let whole2 = field-in (now (a .bytes)) _ (suc (wideMore (a .big))) _ _ (sym (read2 .read-sized2 .ensures) ∙ more .more .given .1) in (
       λ p base f hp hn.
-      c .read-count .ensures .0 p (a .big) base f _ refl (whole2 .inside)
-      ∙ sym (read-in base _ f _ _ _ (read .read-sized .ensures) (start .pre .3) (got .got .given .1)
-      ∙ time-read p base _ _ _ f _ _ _ (rw (hp, hn) (sym (diff .differs .ensures) ∙ test .if1 .left))
-      ∙ read-in base _ f _ _ _ (read2 .read-sized2 .ensures) (whole .inside) (more .more .given .1)
-      ∙ offset-read p base _ _ _ f _ _ _ (rw hp (sym (diff2 .differs2 .ensures) ∙ test2 .if2 .left))),
+          c .read-count .ensures .0 p (a .big) base f _ refl (whole2 .inside)
+          ∙ sym (read-in base _ f _ _ _ (read .read-sized .ensures) (start .pre .3) (got .got .given .1)
+          ∙ time-read p base _ _ _ f _ _ _ (rw (hp, hn) (sym (diff .differs .ensures) ∙ test .if1 .left))
+          ∙ read-in base _ f _ _ _ (read2 .read-sized2 .ensures) (whole .inside) (more .more .given .1)
+          ∙ offset-read p base _ _ _ f _ _ _ (rw hp (sym (diff2 .differs2 .ensures) ∙ test2 .if2 .left))),
       c .read-count .ensures .1,
     )
 

@@ -1,0 +1,9 @@
+pub mod Shown
+pub mod Headers
+pub mod Skips
+pub mod Gap
+pub mod Brands
+pub mod Boxes
+pub mod Findings
+pub mod Opened
+pub mod OneOutcome
