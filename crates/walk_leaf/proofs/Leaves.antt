@@ -1,7 +1,7 @@
 -- The boxes of a leaf from a position on: what its next box makes of them, and its end; with room in the table, and without.
 use Prim.Native.Nat.{ℕ, _+_, _-_, _≤_, _<_}
 use mathlib.Core.Path.{_≡_, refl, ap, sym, subst, _∙_}
-use mathlib.Core.List.{List, [], _∷_, _++_}
+use mathlib.Core.List.{List, [], _++_}
 use mathlib.Core.Bool.{Bool, true, false, not, _&&_}
 use mathlib.Core.Logic.{inl, inr}
 use native.Mathlib.Omega.{arith}
@@ -243,7 +243,7 @@ module _ (id : ℕ) (s : List ℕ) (end : ℕ) where
   pub leaf-listed : (from : ℕ) (known : Known) (r : Walked) → from < end → from ≤ length s → LeafFrom from known r → WalkFixed s end r → LeafListed s id from end known r
   leaf-listed from known r before here d g = record {
     right = λ base slot f ends roomy.
-      d base slot f (length (drop from s)) ends roomy (rw (length-drop from s) (omega arith)) ∙ goes from known here before base slot f (length (drop from s)) ends;
+        d base slot f (length (drop from s)) ends roomy (rw (length-drop from s) (omega arith)) ∙ goes from known here before base slot f (length (drop from s)) ends;
     fixed = g;
   }
 
@@ -324,8 +324,8 @@ module _ (id : ℕ) (s : List ℕ) (at end last : ℕ) (here : at ≤ length s) 
         let holds = hd .holds in
         record {
           right = λ base slot f starts ends lasts full.
-            sym
-            (leaf-flawed id s end at here before base slot f (leafSo0 (f .last)) (length (drop at s)) ends enough e hd n (q ∙ sym (full-flaw base slot f starts full)) z (omega arith)
-            (λ y. few));
+              sym
+              (leaf-flawed id s end at here before base slot f (leafSo0 (f .last)) (length (drop at s)) ends enough e hd n (q ∙ sym (full-flaw base slot f starts full)) z (omega arith)
+              (λ y. few));
           fixed = (refl, omega arith, omega arith);
         }

@@ -12,7 +12,7 @@ use lib.ListN.{length, drop}
 use borrow.Author.Tests.{ltb-false, eq-eqb, ne-eqb, eqb-true, eqb-false}
 use Rattle.basics.proofs.Picks.{pick-holds}
 use Rattle.machine.specs.Faults.{refusal}
-use Rattle.machine.specs.Run.{Res, okay, fail, cut, either}
+use Rattle.machine.specs.Run.{Res, fail, either}
 use Rattle.machine.specs.declared.Header.{Header}
 use Rattle.machine.specs.declared.Refusal.{Refusal}
 use Rattle.machine.proofs.Kept.{Each}

@@ -1,12 +1,11 @@
 -- The boxes of a `moof` from a position on, and a box that is a list of boxes itself: a `traf` in a `moof`, a `moof` in a leaf.
 use Prim.Native.Nat.{ℕ, _+_, _-_, _≤_, _<_}
 use mathlib.Core.Path.{_≡_, refl, ap, sym, _∙_}
-use mathlib.Core.List.{List, []}
+use mathlib.Core.List.{List}
 use mathlib.Core.Bool.{true}
 use mathlib.Core.Logic.{inl, inr}
 use native.Mathlib.Omega.{arith}
 use lib.ListN.{length, drop, length-drop}
-use lib.Dec.{eqb}
 use borrow.Author.Tests.{eq-eqb, ne-eqb}
 use Rattle.basics.proofs.Picks.{pick-yes, pick-no}
 use Rattle.segment.specs.Constants.{moof, traf}
@@ -15,9 +14,7 @@ use Rattle.machine.specs.Run.{Res, okay, fail, cut, either, after, skipD}
 use Rattle.machine.specs.Lists.{Next, goOnD, boxesD}
 use Rattle.machine.specs.declared.Header.{Header}
 use Rattle.machine.proofs.Runs.{after-assoc, after-okay}
-use Rattle.state.specs.declared.Span.{Span}
 use Rattle.state.specs.declared.Seen.{Seen}
-use Rattle.state.specs.declared.LeafSo.{LeafSo}
 use Rattle.state.specs.Flow.{Flow, Left, left}
 use Rattle.state.specs.Opening.{spanOf}
 use Rattle.state.specs.Leaf.{Passed, skipped, seeing, seenNow, leafNow, moofNext, moofBoxes}
@@ -196,7 +193,8 @@ box-list id s at h so list r hd kind told = record {
 }
 
 -- it is skipped
-pub box-skipped : (id : ℕ) (s : List ℕ) (at : ℕ) (h : Header) (so : Known) (list : ℕ) → Headed s at h → (h .kind ≡ list → ⊥) → so .any ≤ 1 → BoxWalked s list id at h so (skipWalked s (at + h .size) so)
+pub box-skipped : (id : ℕ) (s : List ℕ) (at : ℕ) (h : Header) (so : Known) (list : ℕ) → Headed s at h → (h .kind ≡ list → ⊥) → so .any ≤ 1 →
+    BoxWalked s list id at h so (skipWalked s (at + h .size) so)
 box-skipped id s at h so list hd kind few = record {
   in-moof = skip-in-moof id s at h so hd list kind;
   in-leaf = skip-in-leaf id s at h so hd list kind;

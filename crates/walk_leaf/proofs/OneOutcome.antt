@@ -1,7 +1,7 @@
 -- The contracts of the functions that other crates call, as the check reads them: two outcomes that one allows coincide. A flow with room in its table, and
 -- one without, can be had.
 use Prim.Native.Nat.{ℕ, _+_}
-use mathlib.Core.Path.{_≡_, refl, ap, sym, _∙_}
+use mathlib.Core.Path.{_≡_, refl, sym, _∙_}
 use mathlib.Core.List.{List, [], _∷_}
 use mathlib.Core.Bool.{Bool, true, false}
 use native.Mathlib.Omega.{arith}

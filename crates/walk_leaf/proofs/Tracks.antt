@@ -1,7 +1,7 @@
 -- The boxes of a `traf`, from what the code reads of them: skipped bodies, a `tfhd`, and a `tfdt` by its version and its decode time.
 use Prim.Native.Nat.{ℕ, _+_, _-_, _≤_, _<_}
 use mathlib.Core.Path.{_≡_, refl, ap, sym, _∙_}
-use mathlib.Core.List.{List, [], _++_}
+use mathlib.Core.List.{List, _++_}
 use mathlib.Core.Bool.{Bool, true, false, not, _&&_, _||_}
 use mathlib.Core.Logic.{_⊎_, inl, inr}
 use native.Mathlib.Omega.{arith}
@@ -10,12 +10,11 @@ use lib.ListN.{length, drop}
 use borrow.Author.Tests.{lt-ltb, le-ltb, eq-eqb, ne-eqb, ltb-false, eqb-true}
 use Rattle.basics.specs.Choose.{pick}
 use Rattle.basics.proofs.Picks.{lt-or-ge, pick-yes, pick-no}
-use Rattle.machine.specs.Faults.{refusal, shows, lowest, unless}
-use Rattle.machine.specs.Run.{Res, okay, fail, cut, either, after, fieldD, plain, skipD}
+use Rattle.machine.specs.Faults.{shows, lowest, unless}
+use Rattle.machine.specs.Run.{Res, okay, fail, either, after, fieldD, plain, skipD}
 use Rattle.machine.specs.declared.Header.{Header}
 use Rattle.machine.proofs.Kept.{Each, each-shows, each-append}
 use Rattle.machine.proofs.Runs.{after-assoc}
-use Rattle.machine.proofs.Fields.{field-either}
 use Rattle.segment.specs.Constants.{tfhd, tfdt}
 use Rattle.state.specs.Flow.{Flow, Left, left}
 use Rattle.state.specs.Rows.{trafFaults}
@@ -25,7 +24,7 @@ use Rattle.state.specs.declared.TrafPhase.{TrafPhase}
 use Rattle.state.specs.declared.TrafPhase.the-variants as track
 use Rattle.descent.specs.Opening.{skipTo}
 use Rattle.descent.specs.Leaf.{tfhdD, widthD, tfdtD, trafBodyD}
-use Rattle.fields.specs.Answers.{fieldAt, numberAt, stopAt}
+use Rattle.fields.specs.Answers.{fieldAt, stopAt}
 use Rattle.fields.specs.Onward.{placed, stopped, ended, from, onField}
 use Rattle.fields.specs.declared.FieldRead.{FieldRead}
 use Rattle.fields.specs.declared.FieldRead.the-variants as field
@@ -37,7 +36,6 @@ use Rattle.flaws.proofs.Places.{mark-flaws}
 use Rattle.walk_leaf.specs.Views.{seenOf, trafSoOf, walkedD}
 use Rattle.walk_leaf.specs.Walks.{withMark, skipWalked, Headed, WalkFixed, gaveD, trackD}
 use Rattle.walk_leaf.specs.declared.Known.{Known}
-use Rattle.walk_leaf.specs.declared.Walked.{Walked}
 use Rattle.walk_leaf.specs.declared.Walked.the-variants as walked
 
 -- a skipped body, from anywhere before its end

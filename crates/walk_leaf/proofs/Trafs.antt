@@ -1,8 +1,8 @@
 -- The boxes of a `traf` from a position on: what its next box makes of them, and its end.
 use Prim.Native.Nat.{ℕ, _+_, _-_, _≤_, _<_}
 use mathlib.Core.Path.{_≡_, refl, ap, sym, _∙_}
-use mathlib.Core.List.{List, [], _∷_, _++_}
-use mathlib.Core.Bool.{Bool, true, false, not, _&&_, _||_}
+use mathlib.Core.List.{List, [], _∷_}
+use mathlib.Core.Bool.{Bool, true, false, not, _&&_}
 use mathlib.Core.Logic.{inl, inr}
 use native.Mathlib.Omega.{arith}
 use lib.Dec.{eqb, ltb}
@@ -299,11 +299,12 @@ flaw-stop-in flaw mark pos at end next few a b c =
     pick-holds (StopIn end) _ _ _ (λ e. record { none = refl; low = omega arith; place = a; count = c }) (λ e. record { none = refl; low = omega arith; place = b; count = c })
 
 -- an answer that is right for all its boxes is right for the `traf`
-pub traf-walked : (id : ℕ) (s : List ℕ) (pos from end : ℕ) (known so : Known) (r : Walked) → so ≡ withMark known 0 → TrafFrom id s pos end from so r → ListFixed s end r → TrafWalked s id pos from end known r
+pub traf-walked : (id : ℕ) (s : List ℕ) (pos from end : ℕ) (known so : Known) (r : Walked) →
+    so ≡ withMark known 0 → TrafFrom id s pos end from so r → ListFixed s end r → TrafWalked s id pos from end known r
 unfolding phaseOf pick
 traf-walked id s pos from end known so r e d g = record {
   right = λ base span f starts ends.
-    d base span f (length (drop from s)) starts ends (rw (length-drop from s) (omega arith))
-    ∙ ap (λ (k : Known). restD id s pos end span f (length (drop from s)) base from k) e;
+      d base span f (length (drop from s)) starts ends (rw (length-drop from s) (omega arith))
+      ∙ ap (λ (k : Known). restD id s pos end span f (length (drop from s)) base from k) e;
   fixed = g;
 }

@@ -55,7 +55,7 @@ pub record Headed (s : List ℕ) (at : ℕ) (h : Header) : Type 0 where
   pub far : at + h .size ≤ limit
   pub here : at + h .head ≤ length s
 
--- a refusal inside a leaf up to `end`: it tells no leaves, no number is above 18, and its place and its byte are before that end
+-- a refusal inside a leaf up to `end`: it tells no leaves, no number is above 18, and neither its place nor its byte is after that end
 pub record StopIn (end : ℕ) (x : Stop) : Type 0 where
   pub none : x .leaves ≡ 0
   pub low : x .number ≤ 18

@@ -2,7 +2,7 @@
 -- `skip_box`. The loop's invariant: what is right for the boxes from here on is right for all of them. The measures are twice the bytes of a box, and twice those
 -- that are left of a list, and one. The laws are those of `Moofs`.
 use Prim.Native.Nat.{ℕ, _+_, _-_, _*_, _≤_, _<_}
-use mathlib.Core.Path.{_≡_, refl, ap, sym, _∙_}
+use mathlib.Core.Path.{_≡_, refl, sym, _∙_}
 use mathlib.Core.List.{List}
 use native.Mathlib.Omega.{arith}
 use denote.Ref.{now}
@@ -15,10 +15,9 @@ use Rattle.segment.specs.Constants.{moof, traf}
 use Rattle.fields.specs.Answers.{headAt}
 use Rattle.fields.specs.declared.HeadRead.the-variants as head
 use Rattle.fields.proofs.Answers.{head-in}
-use Rattle.walk_leaf.specs.Walks.{withMark, Headed, ListFixed, ListWalked}
+use Rattle.walk_leaf.specs.Walks.{Headed}
 use Rattle.walk_leaf.specs.declared.Known.{Known}
 use Rattle.walk_leaf.specs.declared.Walked.{Walked}
-use Rattle.walk_leaf.specs.declared.Walked.the-variants as walked
 use Rattle.walk_leaf.proofs.Loops.{head-fixed, head-headed, stays-fixed, over-fixed}
 use Rattle.walk_leaf.proofs.Moofs.{MoofFrom, moof-head, moof-stays, moof-over, moof-ends, moof-walked, box-list, box-skipped}
 use Rattle.walk_leaf.proofs.box_walk.Reads as box-walk
@@ -59,9 +58,18 @@ abbrev box-walk-claims : ℕ → box-walk-lts.Claims
 box-walk-claims t = (list-walk-below t, list-walk.Post, skip-box-reads.Asked, skip-box-reads.Learnt)
 
 abbrev list-walk-claims : ℕ → list-walk-lts.Claims
-list-walk-claims t =
-    (traf-list-reads.Asked, traf-list-reads.Learnt, quick-head-reads.Asked, quick-head-reads.Learnt, head-walked-reads.Asked, head-walked-reads.Learnt,
-    box-walk-below t, box-walk.Post, marked-reads.Asked, marked-reads.Learnt)
+list-walk-claims t = (
+  traf-list-reads.Asked,
+  traf-list-reads.Learnt,
+  quick-head-reads.Asked,
+  quick-head-reads.Learnt,
+  head-walked-reads.Asked,
+  head-walked-reads.Learnt,
+  box-walk-below t,
+  box-walk.Post,
+  marked-reads.Asked,
+  marked-reads.Learnt,
+)
 
 -- A box.
 add-end : (t : ℕ) → box-walk-lts.Need-add-end (box-walk-claims t) (box-walk-at t) box-walk.Post
@@ -213,10 +221,14 @@ loop-again t c =
     let l = k .before .before .before .before .before .loop in
     let (there, few) = over-fixed (s t k) _ (got .passed .given .1) (boxed .box-walk .ensures .fixed) in
     let w = within t k in
-    let on = l .inv .0 in
-    (omega arith, omega arith, there, few,
+    let on = l .inv .0 in (
+      omega arith,
+      omega arith,
+      there,
+      few,
       λ r d. l .inv .4 r
-        (moof-over (id t k) (s t k) (end t k) (at t k) (so t k) (here t k) (before t k) (read t k) (headed t k) (boxed .box-walk .ensures) (got .passed .given .1) r d))
+          (moof-over (id t k) (s t k) (end t k) (at t k) (so t k) (here t k) (before t k) (read t k) (headed t k) (boxed .box-walk .ensures) (got .passed .given .1) r d),
+    )
 
 list-returns-4 : (t : ℕ) → list-walk-lts.Need-returns-4 (list-walk-claims t) (list-walk-at t) list-walk.Post Inv-loop μ-loop
 list-returns-4 t c =

@@ -1,13 +1,10 @@
 -- `walk_leaf::full_leaf` meets its contract, by those of `read_head`, `head_walked`, `leaf_flaw` and `stop_at`, and by the laws `full-head` and `full-shown`.
-use Prim.Native.Nat.{ℕ, _+_, _≤_, _<_}
-use mathlib.Core.Path.{_≡_, ap, sym, subst, _∙_}
+use Prim.Native.Nat.{ℕ, _+_}
+use mathlib.Core.Path.{_≡_, ap, sym, _∙_}
 use mathlib.Core.Bool.{false}
-use mathlib.Core.Logic.{inl, inr}
 use native.Mathlib.Omega.{arith}
 use denote.Ref.{now}
-use lib.Dec.{eqb}
 use borrow.Author.Tests.{eq-eqb, ne-eqb}
-use Rattle.basics.specs.Choose.{pick}
 use Rattle.basics.proofs.Picks.{pick-yes, pick-no}
 use Rattle.fields.specs.Answers.{stopAt}
 use Rattle.fields.specs.declared.HeadRead.{HeadRead}
@@ -15,7 +12,6 @@ use Rattle.fields.specs.declared.HeadRead.the-variants as head
 use Rattle.fields.proofs.Answers.{head-in}
 use Rattle.walk_leaf.specs.Views.{Refuses}
 use Rattle.walk_leaf.specs.Walks.{headWalked, leafFlaw}
-use Rattle.walk_leaf.specs.declared.Walked.{Walked}
 use Rattle.walk_leaf.proofs.Loops.{head-headed}
 use Rattle.walk_leaf.proofs.Leaves.{full-head, full-shown, flaw-nine}
 use borrow.Author.Needs.{needs}
@@ -35,9 +31,10 @@ returns c =
     let start = read .before .before in
     let a = start .args in
     let s = now (a .bytes) in
-    let told = c .head-walked .ensures in
-    (λ id last. rw told (full-head id s (a .at) (a .end) last (start .pre .2) (start .pre .0) _ (sym (read .read-head .ensures)) (c .before .match .keys2)),
-      rw told (refuses (read .read-head .result)))
+    let told = c .head-walked .ensures in (
+      λ id last. rw told (full-head id s (a .at) (a .end) last (start .pre .2) (start .pre .0) _ (sym (read .read-head .ensures)) (c .before .match .keys2)),
+      rw told (refuses (read .read-head .result)),
+    )
 
 add-next : tie.Need-add-next
 add-next c =
@@ -64,10 +61,12 @@ returns-2 c =
     let shown = flawed .leaf-flaw .ensures in
     let told = c .stop-at .ensures ∙ ap (λ (n : ℕ). stopAt n (a .at) (a .at + h .head)) shown in
     let some : leafFlaw false h ≡ 0 → ⊥ = λ z. test .if1 .taken (shown ∙ z) in
-    let nine = flaw-nine false h in
-    (λ id last. rw told
-      (full-shown id s (a .at) (a .end) last (start .pre .2) (start .pre .0) e (head-headed s (a .at) (a .end) (start .pre .1) e) (head-in s (a .at) (a .end) h e .within) _
-      (sym (pick-no _ _ _ (ne-eqb _ 0 some))) some (omega arith)), tt)
+    let nine = flaw-nine false h in (
+      λ id last. rw told
+          (full-shown id s (a .at) (a .end) last (start .pre .2) (start .pre .0) e (head-headed s (a .at) (a .end) (start .pre .1) e) (head-in s (a .at) (a .end) h e .within) _
+          (sym (pick-no _ _ _ (ne-eqb _ 0 some))) some (omega arith)),
+      tt,
+    )
 
 returns-3 : tie.Need-returns-3
 returns-3 c =
@@ -80,10 +79,12 @@ returns-3 c =
     let s = now (a .bytes) in
     let h = got .head .given .0 .0 in
     let e = sym (read .read-head .ensures) ∙ got .head .given .1 in
-    let told = c .stop-at2 .ensures in
-    (λ id last. rw told
-      (full-shown id s (a .at) (a .end) last (start .pre .2) (start .pre .0) e (head-headed s (a .at) (a .end) (start .pre .1) e) (head-in s (a .at) (a .end) h e .within) 15
-      (sym (pick-yes _ _ _ (eq-eqb _ 0 (sym (flawed .leaf-flaw .ensures) ∙ test .if1 .left)))) (λ z. omega arith) (omega arith)), tt)
+    let told = c .stop-at2 .ensures in (
+      λ id last. rw told
+          (full-shown id s (a .at) (a .end) last (start .pre .2) (start .pre .0) e (head-headed s (a .at) (a .end) (start .pre .1) e) (head-in s (a .at) (a .end) h e .within) 15
+          (sym (pick-yes _ _ _ (eq-eqb _ 0 (sym (flawed .leaf-flaw .ensures) ∙ test .if1 .left)))) (λ z. omega arith) (omega arith)),
+      tt,
+    )
 
 pub full-leaf-spec : {M : Type 1} → statement M
 full-leaf-spec =

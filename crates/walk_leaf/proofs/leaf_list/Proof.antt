@@ -37,9 +37,18 @@ abbrev μ-loop : tie.MeasureT-loop
 -- the place past a header that was read
 abbrev Told : Type 0
 Told =
-    lts.After-known-told
-    (quick-head-reads.Asked, quick-head-reads.Learnt, head-walked-reads.Asked, head-walked-reads.Learnt, leaf-flaw-reads.Asked, leaf-flaw-reads.Learnt,
-    stop-at-reads.Asked, stop-at-reads.Learnt, box-walk-reads.Asked, box-walk-reads.Learnt)
+    lts.After-known-told (
+      quick-head-reads.Asked,
+      quick-head-reads.Learnt,
+      head-walked-reads.Asked,
+      head-walked-reads.Learnt,
+      leaf-flaw-reads.Asked,
+      leaf-flaw-reads.Learnt,
+      stop-at-reads.Asked,
+      stop-at-reads.Learnt,
+      box-walk-reads.Asked,
+      box-walk-reads.Learnt,
+    )
     reads.Pre reads.Post Inv-loop μ-loop
 
 module _ (c : Told) where
@@ -164,11 +173,15 @@ loop-again c =
     let l = k .before .before .before .before .before .loop in
     let (there, few) = over-fixed (s k) _ (got .passed .given .1) (boxed .box-walk .ensures .fixed) in
     let w = within k in
-    let on = l .inv .0 in
-    (omega arith, omega arith, there, few,
+    let on = l .inv .0 in (
+      omega arith,
+      omega arith,
+      there,
+      few,
       λ r d. l .inv .4 r
-        (leaf-over (id k) (s k) (end k) (at k) (so k) (here k) (before k) (read k) (headed k) (sym (flawed .leaf-flaw .ensures) ∙ test .if1 .left)
-        (boxed .box-walk .ensures) (got .passed .given .1) r d))
+          (leaf-over (id k) (s k) (end k) (at k) (so k) (here k) (before k) (read k) (headed k) (sym (flawed .leaf-flaw .ensures) ∙ test .if1 .left)
+          (boxed .box-walk .ensures) (got .passed .given .1) r d),
+    )
 
 returns-4 : tie.Need-returns-4 Inv-loop μ-loop
 returns-4 c =

@@ -1,5 +1,4 @@
 -- `walk_leaf::leaf_walk` meets its contract, by those of `leaf_list` and `stop_at`, and by the laws `walked-stays`, `walked-bare`, `walked-timed` and `over-fixed`.
-use mathlib.Core.Path.{_≡_}
 use native.Mathlib.Omega.{arith}
 use denote.Ref.{now}
 use Rattle.walk_leaf.proofs.Loops.{over-fixed}

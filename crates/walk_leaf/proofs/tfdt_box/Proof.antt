@@ -1,17 +1,15 @@
 -- `walk_leaf::tfdt_box` meets its contract, by those of `read_field`, `version_flaw`, `stop_at`, `read_sized` and `time_box`, and by the laws
 -- `track-tfdt`, `tfdt-ended`, `tfdt-flawed`, `tfdt-short`, `tfdt-timed`, `version-low` and `version-fits`.
-use Prim.Native.Nat.{ℕ, _+_, _≤_}
+use Prim.Native.Nat.{ℕ, _+_}
 use mathlib.Core.Path.{_≡_, refl, ap, sym, subst, _∙_}
 use mathlib.Core.List.{List}
 use native.Mathlib.Omega.{arith}
 use denote.Ref.{now}
 use lib.Dec.{eqb}
-use lib.ListN.{length}
 use Rattle.basics.specs.Choose.{pick}
 use Rattle.machine.specs.declared.Header.{Header}
 use Rattle.state.specs.Traf.{tfdtVersionFaults, reference}
-use Rattle.fields.specs.Answers.{fieldAt, stopAt}
-use Rattle.fields.specs.declared.FieldRead.the-variants as field
+use Rattle.fields.specs.Answers.{stopAt}
 use Rattle.fields.specs.declared.Stop.{Stop}
 use Rattle.fields.proofs.Answers.{FieldIn, field-in}
 use Rattle.flaws.specs.Flaws.{flawOf}
@@ -35,8 +33,8 @@ returns c id =
     let (head, kind, eight, few) = start .pre in
     record {
       right = λ base f.
-        tfdt-ended _ (trafSoOf (a .so)) base s f (a .at) (a .at + a .h .head) _ (head .here) (sym (read .read-field .ensures .0) ∙ c .enum-told .given .1)
-        ∙ sym (track-tfdt id (a .so) base s f (a .at) (a .h) head kind);
+          tfdt-ended _ (trafSoOf (a .so)) base s f (a .at) (a .at + a .h .head) _ (head .here) (sym (read .read-field .ensures .0) ∙ c .enum-told .given .1)
+          ∙ sym (track-tfdt id (a .so) base s f (a .at) (a .h) head kind);
       fixed = tt;
     }
 
@@ -76,11 +74,11 @@ returns-2 c id =
     let told = ap (λ (x : Stop). walked.Bad x) (c .stop-at .ensures) in
     record {
       right = λ base f.
-        ap (walkedD trafSoOf base s (a .at + a .h .size) f) (told ∙ ap (λ (n : ℕ). walked.Bad (stopAt n (a .at) (got .got .given .0 .1 .0))) (shows base))
-        ∙ tfdt-flawed (reference (phaseOf (a .so .mark))) (trafSoOf (a .so)) base s f (a .at) (a .at + a .h .head) _ (head .here) e there (λ z. test .if1 .taken (shows base ∙ z))
-        ∙ sym (track-tfdt id (a .so) base s f (a .at) (a .h) head kind);
+          ap (walkedD trafSoOf base s (a .at + a .h .size) f) (told ∙ ap (λ (n : ℕ). walked.Bad (stopAt n (a .at) (got .got .given .0 .1 .0))) (shows base))
+          ∙ tfdt-flawed (reference (phaseOf (a .so .mark))) (trafSoOf (a .so)) base s f (a .at) (a .at + a .h .head) _ (head .here) e there (λ z. test .if1 .taken (shows base ∙ z))
+          ∙ sym (track-tfdt id (a .so) base s f (a .at) (a .h) head kind);
       fixed = subst (λ (r : Walked). WalkFixed s (a .at + a .h .size) r) (sym told)
-        (record { none = refl; low = omega (arith, shows 0); place = omega arith; count = omega arith });
+          (record { none = refl; low = omega (arith, shows 0); place = omega arith; count = omega arith });
     }
 
 add-read-sized : tie.Need-add-read-sized
@@ -124,9 +122,9 @@ returns-3 c id =
     let shows = shows-at s (a .at) _ _ _ (a .h) head i (flawed .version-flaw .ensures) in
     record {
       right = λ base f.
-        tfdt-short (reference (phaseOf (a .so .mark))) (trafSoOf (a .so)) base s f (a .at) (a .at + a .h .head) _ (head .here) e (i .inside) (sym (shows base) ∙ test .if1 .left)
-        (sym (sizes .read-sized .ensures) ∙ c .enum-told2 .given .1)
-        ∙ sym (track-tfdt id (a .so) base s f (a .at) (a .h) head kind);
+          tfdt-short (reference (phaseOf (a .so .mark))) (trafSoOf (a .so)) base s f (a .at) (a .at + a .h .head) _ (head .here) e (i .inside) (sym (shows base) ∙ test .if1 .left)
+          (sym (sizes .read-sized .ensures) ∙ c .enum-told2 .given .1)
+          ∙ sym (track-tfdt id (a .so) base s f (a .at) (a .h) head kind);
       fixed = tt;
     }
 
@@ -167,13 +165,13 @@ returns-4 c id =
     let j = field-in s (got .got .given .0 .1 .0 + 3) _ _ _ g in
     let shows = shows-at s (a .at) _ _ _ (a .h) head i (flawed .version-flaw .ensures) in
     let ends : a .at + a .h .size ≡ time .time .given .0 .1 .0 =
-      sized s (a .at) _ _ _ (a .h) head i (flawed .version-flaw .ensures) (test .if1 .left) ∙ sym (j .after) in
+    sized s (a .at) _ _ _ (a .h) head i (flawed .version-flaw .ensures) (test .if1 .left) ∙ sym (j .after) in
     record {
       right = λ base f.
-        ap (λ (m : ℕ). walkedD trafSoOf base s m f (c .time-box .result)) ends
-        ∙ c .time-box .ensures .right base s f
-        ∙ tfdt-timed (reference (phaseOf (a .so .mark))) (trafSoOf (a .so)) base s f (a .at) (a .at + a .h .head) _ (head .here) e (i .inside) (sym (shows base) ∙ test .if1 .left) g
-        ∙ sym (track-tfdt id (a .so) base s f (a .at) (a .h) head kind);
+          ap (λ (m : ℕ). walkedD trafSoOf base s m f (c .time-box .result)) ends
+          ∙ c .time-box .ensures .right base s f
+          ∙ tfdt-timed (reference (phaseOf (a .so .mark))) (trafSoOf (a .so)) base s f (a .at) (a .at + a .h .head) _ (head .here) e (i .inside) (sym (shows base) ∙ test .if1 .left) g
+          ∙ sym (track-tfdt id (a .so) base s f (a .at) (a .h) head kind);
       fixed = subst (λ (m : ℕ). WalkFixed s m (c .time-box .result)) (sym ends) (c .time-box .ensures .fixed s (j .inside));
     }
 

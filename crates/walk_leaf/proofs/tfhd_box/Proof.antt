@@ -1,16 +1,14 @@
 -- `walk_leaf::tfhd_box` meets its contract, by those of `read_field`, `track_mark`, `marked` and `skip_box`, and by the laws `track-tfhd`,
 -- `tfhd-ended`, `tfhd-read` and `skip-fixed`.
-use Prim.Native.Nat.{ℕ, _+_, _≤_}
+use Prim.Native.Nat.{_+_}
 use mathlib.Core.Path.{_≡_, ap, sym, subst, _∙_}
 use native.Mathlib.Omega.{arith}
 use denote.Ref.{now}
-use lib.ListN.{length}
 use Rattle.fields.specs.Answers.{fieldAt}
 use Rattle.fields.specs.declared.FieldRead.the-variants as field
 use Rattle.fields.proofs.Answers.{field-in}
 use Rattle.walk_leaf.specs.Views.{trafSoOf, walkedD}
 use Rattle.walk_leaf.specs.Walks.{withMark, skipWalked, WalkFixed}
-use Rattle.walk_leaf.specs.declared.Known.{Known}
 use Rattle.walk_leaf.specs.declared.Walked.{Walked}
 use Rattle.walk_leaf.proofs.Tracks.{track-tfhd, tfhd-ended, tfhd-read, skip-fixed}
 use borrow.Author.Needs.{needs}
@@ -26,8 +24,8 @@ returns c =
     let (head, kind, eight, few) = start .pre in
     record {
       right = λ base f.
-        tfhd-ended (a .id) (a .so) base (now (a .bytes)) f (a .at + a .h .head) (a .at + a .h .size) (head .here) (sym (read .read-field .ensures .0) ∙ c .enum-told .given .1)
-        ∙ sym (track-tfhd (a .id) (a .so) base (now (a .bytes)) f (a .at) (a .h) head kind);
+          tfhd-ended (a .id) (a .so) base (now (a .bytes)) f (a .at + a .h .head) (a .at + a .h .size) (head .here) (sym (read .read-field .ensures .0) ∙ c .enum-told .given .1)
+          ∙ sym (track-tfhd (a .id) (a .so) base (now (a .bytes)) f (a .at) (a .h) head kind);
       fixed = tt;
     }
 
@@ -50,9 +48,9 @@ returns-2 c =
     let told = c .skip-box .ensures ∙ ap (skipWalked s (a .at + a .h .size)) known in
     record {
       right = λ base f.
-        ap (walkedD trafSoOf base s (a .at + a .h .size) f) told
-        ∙ tfhd-read (a .id) (a .so) base s f (a .at + a .h .head) (a .at + a .h .size) (head .here) e there (omega arith)
-        ∙ sym (track-tfhd (a .id) (a .so) base s f (a .at) (a .h) head kind);
+          ap (walkedD trafSoOf base s (a .at + a .h .size) f) told
+          ∙ tfhd-read (a .id) (a .so) base s f (a .at + a .h .head) (a .at + a .h .size) (head .here) e there (omega arith)
+          ∙ sym (track-tfhd (a .id) (a .so) base s f (a .at) (a .h) head kind);
       fixed = subst (λ (r : Walked). WalkFixed s (a .at + a .h .size) r) (sym told) (skip-fixed _ s _ few);
     }
 

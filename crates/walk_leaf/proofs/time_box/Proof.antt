@@ -36,7 +36,7 @@ returns-2 c =
     record {
       right = λ base s f. ap (walkedD trafSoOf base s (a .end) f) told ∙ time-falls (a .so) base s f (a .at) (a .end) (a .v) (mark .if1 .left) (test .if2 .taken);
       fixed = λ s there. subst (λ (r : Walked). WalkFixed s (a .end) r) (sym told)
-        (record { none = search needs; low = omega arith; place = start .pre .0; count = omega arith });
+          (record { none = search needs; low = omega arith; place = start .pre .0; count = omega arith });
     }
 
 returns-3 : tie.Need-returns-3
@@ -49,7 +49,7 @@ returns-3 c =
     let told = ap (λ (n : ℕ). walked.Over (record { mark = 1; any = 1; first = n; last = a .v })) (c .first-time .ensures) in
     record {
       right = λ base s f. ap (walkedD trafSoOf base s (a .end) f) told
-        ∙ time-climbs (a .so) base s f (a .at) (a .end) (a .v) (mark .if1 .left) (test .if2 .left) (start .pre .1);
+          ∙ time-climbs (a .so) base s f (a .at) (a .end) (a .v) (mark .if1 .left) (test .if2 .left) (start .pre .1);
       fixed = λ s there. (there, omega arith);
     }
 

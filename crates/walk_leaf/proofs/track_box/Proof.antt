@@ -35,8 +35,8 @@ returns-3 c =
     let (head, none, few) = start .pre in
     record {
       right = λ base f.
-        ap (walkedD trafSoOf base s (a .at + a .h .size) f) (c .skip-box .ensures)
-        ∙ track-other (a .id) (a .so) base s f (a .at) (a .h) head (test1 .if1 .left) (test2 .if2 .left);
+          ap (walkedD trafSoOf base s (a .at + a .h .size) f) (c .skip-box .ensures)
+          ∙ track-other (a .id) (a .so) base s f (a .at) (a .h) head (test1 .if1 .left) (test2 .if2 .left);
       fixed = subst (λ (r : Walked). WalkFixed s (a .at + a .h .size) r) (sym (c .skip-box .ensures)) (skip-fixed (a .so) s _ few);
     }
 

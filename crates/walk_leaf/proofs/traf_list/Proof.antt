@@ -1,24 +1,22 @@
 -- `walk_leaf::traf_list` meets its contract, by those of `marked`, `quick_head`, `head_walked`, `traf_flaw`, `flaw_stop`, `track_box` and `stop_at`. The
 -- loop's invariant: what is right for the boxes from here on is right for all of them. The measure is what is left of the `traf`. The laws are those of `Trafs`.
 use Prim.Native.Nat.{ℕ, _+_, _-_, _≤_, _<_}
-use mathlib.Core.Path.{_≡_, refl, ap, sym, subst, _∙_}
+use mathlib.Core.Path.{_≡_, refl, ap, sym, _∙_}
 use mathlib.Core.List.{List}
 use native.Mathlib.Omega.{arith}
 use denote.Ref.{now}
-use lib.ListN.{length, drop, length-drop}
+use lib.ListN.{length}
 use Rattle.machine.specs.declared.Header.{Header}
 use Rattle.state.specs.Rows.{trafFaults}
-use Rattle.fields.specs.Answers.{headAt, stopAt}
+use Rattle.fields.specs.Answers.{headAt}
 use Rattle.fields.specs.declared.HeadRead.the-variants as head
-use Rattle.fields.specs.declared.Stop.{Stop}
 use Rattle.fields.proofs.Answers.{head-in}
 use Rattle.flaws.specs.Flaws.{flawOf}
 use Rattle.flaws.specs.Marks.{phaseOf}
 use Rattle.flaws.proofs.Places.{traf-beyond}
-use Rattle.walk_leaf.specs.Walks.{withMark, Headed, flawStop, ListFixed, TrafWalked}
+use Rattle.walk_leaf.specs.Walks.{Headed, flawStop, ListFixed, TrafWalked}
 use Rattle.walk_leaf.specs.declared.Known.{Known}
 use Rattle.walk_leaf.specs.declared.Walked.{Walked}
-use Rattle.walk_leaf.specs.declared.Walked.the-variants as walked
 use Rattle.walk_leaf.proofs.Loops.{head-fixed, head-headed, stays-fixed, over-fixed}
 use Rattle.walk_leaf.proofs.Trafs.{TrafFrom, traf-head, traf-flawed, traf-stays, traf-over, traf-lacks, traf-ends, flaw-few, flaw-stop-in, traf-walked}
 use borrow.Author.Needs.{needs}
@@ -43,9 +41,22 @@ abbrev μ-loop : tie.MeasureT-loop
 -- the place past a header that was read
 abbrev Told : Type 0
 Told =
-    lts.After-known-told
-    (marked-reads.Asked, marked-reads.Learnt, quick-head-reads.Asked, quick-head-reads.Learnt, head-walked-reads.Asked, head-walked-reads.Learnt, traf-flaw-reads.Asked, traf-flaw-reads.Learnt,
-    flaw-stop-reads.Asked, flaw-stop-reads.Learnt, track-box-reads.Asked, track-box-reads.Learnt, stop-at-reads.Asked, stop-at-reads.Learnt)
+    lts.After-known-told (
+      marked-reads.Asked,
+      marked-reads.Learnt,
+      quick-head-reads.Asked,
+      quick-head-reads.Learnt,
+      head-walked-reads.Asked,
+      head-walked-reads.Learnt,
+      traf-flaw-reads.Asked,
+      traf-flaw-reads.Learnt,
+      flaw-stop-reads.Asked,
+      flaw-stop-reads.Learnt,
+      track-box-reads.Asked,
+      track-box-reads.Learnt,
+      stop-at-reads.Asked,
+      stop-at-reads.Learnt,
+    )
     reads.Pre reads.Post Inv-loop μ-loop
 
 module _ (c : Told) where
@@ -144,7 +155,9 @@ returns-3 c =
     let test = boxed .before in
     let flawed = test .before in
     let k = flawed .before in
-    whole k _ (traf-stays (id k) (s k) (pos k) (end k) (at k) (so k) (here k) (before k) (read k) (headed k) (sym (flawed .traf-flaw .ensures) ∙ test .if1 .left) (boxed .track-box .ensures) (c .match2 .keys2))
+    whole k _
+    (traf-stays (id k) (s k) (pos k) (end k) (at k) (so k) (here k) (before k) (read k) (headed k) (sym (flawed .traf-flaw .ensures) ∙ test .if1 .left)
+    (boxed .track-box .ensures) (c .match2 .keys2))
     (stays-fixed (s k) _ (end k) (within k) (boxed .track-box .result) (c .match2 .keys2) (boxed .track-box .ensures .fixed))
 
 add-at : tie.Need-add-at Inv-loop μ-loop
@@ -172,11 +185,15 @@ loop-again c =
     let l = k .before .before .before .before .before .loop in
     let (there, few) = over-fixed (s k) _ (got .passed .given .1) (boxed .track-box .ensures .fixed) in
     let w = within k in
-    let on = l .inv .0 in
-    (omega arith, omega arith, there, few,
+    let on = l .inv .0 in (
+      omega arith,
+      omega arith,
+      there,
+      few,
       λ r d. l .inv .4 r
-        (traf-over (id k) (s k) (pos k) (end k) (at k) (so k) (here k) (before k) (read k) (headed k) (sym (flawed .traf-flaw .ensures) ∙ test .if1 .left)
-        (boxed .track-box .ensures) (got .passed .given .1) r d))
+          (traf-over (id k) (s k) (pos k) (end k) (at k) (so k) (here k) (before k) (read k) (headed k) (sym (flawed .traf-flaw .ensures) ∙ test .if1 .left)
+          (boxed .track-box .ensures) (got .passed .given .1) r d),
+    )
 
 returns-4 : tie.Need-returns-4 Inv-loop μ-loop
 returns-4 c =
