@@ -137,7 +137,8 @@ module _ {B R F L : Type 0} (k : Kind B R F L) (bodyD : Header → F → ℕ →
       let past : Bool = ltb (k .end) (n + size) in
       ap (λ (xs : List Refusal). unless xs worse body) (append-assoc (shows small 4 n) (shows past 5 n) (k .shown h f))
       ∙ unless-first 4 n (shows past 5 n ++ k .shown h f) worse body small (higher past n (k .shown h f) (high h))
-      ∙ ap (pick small (worse (refusal 4 n))) (unless-first 5 n (k .shown h f) worse body past (high h) ∙ ap (λ (t : Bool). pick t (worse (refusal 5 n)) (unless (k .shown h f) worse body)) (past-end size))
+      ∙ ap (pick small (worse (refusal 4 n))) (unless-first 5 n (k .shown h f) worse body past (high h)
+      ∙ ap (λ (t : Bool). pick t (worse (refusal 5 n)) (unless (k .shown h f) worse body)) (past-end size))
       ∙ pick-both small (λ r. r) Onto _ _ _ _ refl (pick-both (ltb end (at + size)) (λ r. r) Onto _ _ _ _ refl refl)
 
   -- what follows a header that was read

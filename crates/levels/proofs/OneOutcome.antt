@@ -6,8 +6,6 @@ use Rattle.state.specs.declared.Levels.{Levels}
 use Rattle.levels.specs.Views.{openOf}
 use Rattle.levels.specs.declared.Still.{Still}
 use Rattle.levels.specs.declared.Still.the-variants as still
-use Rattle.levels.proofs.word_at.Kinds as word-at-kinds
-use Rattle.levels.proofs.word_at.Reads as word-at-stated
 use Rattle.levels.proofs.entry_at.Kinds as entry-at-kinds
 use Rattle.levels.proofs.entry_at.Reads as entry-at-stated
 use Rattle.levels.proofs.entry_answer.Kinds as entry-answer-kinds
@@ -24,10 +22,6 @@ use Rattle.levels.proofs.still_open.Kinds as still-open-kinds
 use Rattle.levels.proofs.still_open.Reads as still-open-stated
 use Rattle.levels.proofs.read_back.Kinds as read-back-kinds
 use Rattle.levels.proofs.read_back.Reads as read-back-stated
-
--- of one work area and place: one number
-pub word-at-once : Coincide 1 word-at-kinds.ps word-at-kinds.r word-at-stated.Post
-word-at-once κs given r r' left left' p q = (p ∙ sym q, refl)
 
 -- of one work area and place: one entry
 pub entry-at-once : Coincide 1 entry-at-kinds.ps entry-at-kinds.r entry-at-stated.Post

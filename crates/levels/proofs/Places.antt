@@ -1,11 +1,8 @@
 -- The words of an entry in the work area, and that the next entry of the innermost index stands within it.
-use Prim.Native.Nat.{ℕ, suc, _+_, _*_, _%_, _≤_, _<_}
-use mathlib.Core.Path.{_≡_, ap, subst, _∙_}
-use mathlib.Core.List.{List, _∷_}
+use Prim.Native.Nat.{ℕ, _+_, _%_, _≤_, _<_}
+use mathlib.Core.Path.{_≡_, subst}
+use mathlib.Core.List.{List}
 use native.Mathlib.Omega.{arith}
-use lib.ListN.{length, getD, drop}
-use lib.Seq.{drop-cons}
-use Rattle.basics.specs.Bytes.{numberFrom}
 use lib.Dec.{leb}
 use Rattle.segment.specs.Constants.{entryBytes, typeBit}
 use Rattle.state.specs.Flow.{workBytes}
@@ -14,22 +11,6 @@ use Rattle.state.specs.declared.Levels.the-variants as levels
 use Rattle.state.specs.Levels.{wordAt, entryAt, inmost, depth, entryPlace}
 use Rattle.state.specs.declared.StoredEntry.{StoredEntry}
 use Rattle.state.specs.Ranges.{Within, levelsBounds}
-
-next-byte : (w : List ℕ) (i j : ℕ) → suc i ≡ j → i < length w → drop i w ≡ getD w i 0 ∷ drop j w
-next-byte w i j e h = drop-cons w i 0 h ∙ ap (λ (k : ℕ). getD w i 0 ∷ drop k w) e
-
-four-bytes : (w : List ℕ) (i : ℕ) → i + 4 ≤ length w → drop i w ≡ getD w i 0 ∷ getD w (i + 1) 0 ∷ getD w (i + 2) 0 ∷ getD w (i + 3) 0 ∷ drop (i + 4) w
-four-bytes w i h =
-    next-byte w i (i + 1) (omega arith) (omega arith)
-    ∙ ap (λ (l : List ℕ). getD w i 0 ∷ l) (next-byte w (i + 1) (i + 2) (omega arith) (omega arith)
-    ∙ ap (λ (l : List ℕ). getD w (i + 1) 0 ∷ l) (next-byte w (i + 2) (i + 3) (omega arith) (omega arith)
-    ∙ ap (λ (l : List ℕ). getD w (i + 2) 0 ∷ l) (next-byte w (i + 3) (i + 4) (omega arith) (omega arith))))
-
--- the number that four bytes spell
-pub word-law : (w : List ℕ) (i : ℕ) (a b c d : ℕ) → i + 4 ≤ length w →
-    a ≡ getD w i 0 → b ≡ getD w (i + 1) 0 → c ≡ getD w (i + 2) 0 → d ≡ getD w (i + 3) 0 → ((a * 256 + b) * 256 + c) * 256 + d ≡ wordAt w i
-unfolding numberFrom
-word-law w i a b c d h ea eb ec ed = rw (ea, eb, ec, ed, four-bytes w i h) (omega arith)
 
 pub depth-most : (ls : Levels) → (1 ≤ depth ls) × (depth ls ≤ 4)
 unfolding depth

@@ -7,6 +7,7 @@ ghost use Rattle.state.specs.Flow.{workBytes};
 ghost use Rattle.state.specs.Levels as defs;
 ghost use Rattle.state.specs.Ranges.{Within, levelsBounds};
 ghost use Rattle.levels.specs.Views.{readOf, openOf, stillFour};
+use fields::word_at;
 use state::ENTRY_BYTES;
 use state::LEVEL_BYTES;
 use state::Level;
@@ -25,24 +26,6 @@ pub enum EntryRead {
 pub enum Still {
     Open(Levels),
     Closed,
-}
-
-fn wide(b: u8) -> u64
-    ensures { λ r. ⌜ (r ≡ b) × (r < 256) ⌝ }
-{
-    b as u64
-}
-
-// The number that four bytes spell, the first byte the highest.
-pub fn word_at(work: &[u8], i: usize) -> u64
-    requires { ⌜ i + 4 ≤ length (now work) ⌝ }
-    ensures { λ r. ⌜ r ≡ defs.wordAt (now (work .entry)) i ⌝ }
-{
-    let a = wide(work[i]);
-    let b = wide(work[i + 1]);
-    let c = wide(work[i + 2]);
-    let d = wide(work[i + 3]);
-    ((a * 256 + b) * 256 + c) * 256 + d
 }
 
 // The entry that stands in the work area from a place on.

@@ -2,7 +2,7 @@
 ghost use mathlib.Core.Path.{_≡_};
 ghost use Rattle.basics.specs.Bytes.{number};
 ghost use Rattle.state.specs.Calls.{startOf};
-use levels::word_at;
+use fields::word_at;
 use machine::Head;
 use state::OpeningBoxes;
 use state::Stage;

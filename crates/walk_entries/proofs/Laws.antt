@@ -291,6 +291,7 @@ module _ (left : ℕ) (l : Level) (base : ℕ) (s work : List ℕ) (so : Reached
     where
       u : Unaltered l e (so .now) (so .n)
       u = unaltered l e (so .now) (so .n) fine
+
       at : (suc (l .next) < l .count) ⊎ (l .count ≤ suc (l .next)) → so .n + e .size ≤ l .end
       at (inl h) = let m = u .more (λ (q : suc (l .next) ≡ l .count). omega arith) in omega arith
       at (inr h) = let (a, b) = u .last (omega arith) in omega arith

@@ -13,4 +13,4 @@ start-spec =
     tie.close
     (tie.spec
     (search needs) (search needs)
-    (λ c. ap startOf (c .word-at .ensures ∙ ap number (take-all 4 (c .before .before .args .t1) (omega arith)))))
+    (λ c. ap startOf (c .word-at .ensures .0 ∙ ap number (take-all 4 (c .before .before .args .t1) (omega arith)))))

@@ -97,7 +97,22 @@ abbrev inner-body-claims : ℕ → inner-body-lts.Claims
 inner-body-claims t = (index-walk-reads.Asked, index-walk-reads.Learnt, index-went-reads.Asked, index-went-reads.Learnt, under-below t, under.Post)
 
 abbrev inner-entry-claims : ℕ → inner-entry-lts.Claims
-inner-entry-claims t = (quick-head-reads.Asked, quick-head-reads.Learnt, head-went-reads.Asked, head-went-reads.Learnt, inner-kind-flaw-reads.Asked, inner-kind-flaw-reads.Learnt, top-flaw-reads.Asked, top-flaw-reads.Learnt, stop-at-reads.Asked, stop-at-reads.Learnt, placed-reads.Asked, placed-reads.Learnt, inner-body-below t, inner-body.Post)
+inner-entry-claims t = (
+  quick-head-reads.Asked,
+  quick-head-reads.Learnt,
+  head-went-reads.Asked,
+  head-went-reads.Learnt,
+  inner-kind-flaw-reads.Asked,
+  inner-kind-flaw-reads.Learnt,
+  top-flaw-reads.Asked,
+  top-flaw-reads.Learnt,
+  stop-at-reads.Asked,
+  stop-at-reads.Learnt,
+  placed-reads.Asked,
+  placed-reads.Learnt,
+  inner-body-below t,
+  inner-body.Post,
+)
 
 abbrev under-claims : ℕ → under-lts.Claims
 under-claims t = (entry-walk-below t, entry-walk.Post)
@@ -158,9 +173,9 @@ entry-walk-returns-2 t c =
     let there : a .so .n < a .base + length (now (a .bytes)) = omega (arith, test .if1 .left) in
     record {
       right =
-        back-altered (a .base) (now (a .bytes)) (a .so) (now (a .work)) (now (a .table)) (belowD (a .left) (a .top)) (a .top) (depthAt (a .left)) (a .l) (stands .after) _
-        (altered-told _ _ _ (sym (read .read-back .ensures) ∙ told .enum-told .given .1))
-        ∙ sym (entry-there (a .base) (now (a .bytes)) (a .so) (now (a .work)) (now (a .table)) (belowD (a .left) (a .top)) (a .top) (depthAt (a .left)) (a .l) (stands .after) there);
+          back-altered (a .base) (now (a .bytes)) (a .so) (now (a .work)) (now (a .table)) (belowD (a .left) (a .top)) (a .top) (depthAt (a .left)) (a .l) (stands .after) _
+          (altered-told _ _ _ (sym (read .read-back .ensures) ∙ told .enum-told .given .1))
+          ∙ sym (entry-there (a .base) (now (a .bytes)) (a .so) (now (a .work)) (now (a .table)) (belowD (a .left) (a .top)) (a .top) (depthAt (a .left)) (a .l) (stands .after) there);
       work-long = refl;
       table-long = refl;
       stands = tt;
@@ -343,16 +358,18 @@ inner-body-under-requires t c κs =
     let long = walked .index-walk .ensures .long in
     let two = start .pre .1 .1 in
     let four = start .pre .1 .2 in
-    let area = start .pre .1 .3 in
-    (omega (arith, start .pre .0), record {
-      some = omega arith;
-      most = omega arith;
-      next = omega arith;
-      count = fixed .1;
-      end = asks .end;
-      area = omega arith;
-      stands = record { after = omega arith; inside = omega (arith, fixed .2); within = heads .within; timely = stands .timely; few = stands .few };
-    })
+    let area = start .pre .1 .3 in (
+      omega (arith, start .pre .0),
+      record {
+        some = omega arith;
+        most = omega arith;
+        next = omega arith;
+        count = fixed .1;
+        end = asks .end;
+        area = omega arith;
+        stands = record { after = omega arith; inside = omega (arith, fixed .2); within = heads .within; timely = stands .timely; few = stands .few };
+      },
+    )
 
 inner-body-same-length-2 : (t : ℕ) → inner-body-lts.Need-same-length-2 (inner-body-claims t) (inner-body-at t) inner-body.Post
 inner-body-same-length-2 t c = search needs
@@ -373,9 +390,9 @@ inner-body-returns-2 t c =
     let carried = done .under .ensures in
     record {
       right =
-        carried .right
-        ∙ body-on (a .base) (now (a .bytes)) (a .left) (a .top) (a .slot) (a .h) (a .so) (now (a .work)) (now (a .table)) _ _ (walked .index-walk .ensures) _ (got .index .given .1)
-        (start .pre .1 .1) (start .pre .1 .2);
+          carried .right
+          ∙ body-on (a .base) (now (a .bytes)) (a .left) (a .top) (a .slot) (a .h) (a .so) (now (a .work)) (now (a .table)) _ _ (walked .index-walk .ensures) _ (got .index .given .1)
+          (start .pre .1 .1) (start .pre .1 .2);
       work-long = carried .work-long ∙ walked .index-walk .ensures .long;
       table-long = carried .table-long;
       stands = carried .stands;
@@ -431,7 +448,8 @@ inner-entry-returns t c =
     let ends : a .slot .end ≡ a .base + (a .slot .end - a .base) = omega arith in
     let pos : a .so .n ≡ a .base + (a .slot .pos - a .base) = omega arith in
     carried-as (c .head-went .ensures) (record {
-      right = inner-off (a .base) (a .slot .pos - a .base) (a .slot .end - a .base) (now (a .bytes)) (a .slot) (belowD (a .left) (a .top)) (a .top) (depthAt (a .left)) (a .so) (now (a .work)) (now (a .table)) here ends pos _ (read .quick-head .ensures) (off .match .keys2);
+      right = inner-off (a .base) (a .slot .pos - a .base) (a .slot .end - a .base) (now (a .bytes)) (a .slot) (belowD (a .left) (a .top)) (a .top)
+          (depthAt (a .left)) (a .so) (now (a .work)) (now (a .table)) here ends pos _ (read .quick-head .ensures) (off .match .keys2);
       work-long = refl;
       table-long = refl;
       stands = head-nowhere _ _ _ _ _ (read .quick-head .result);
@@ -493,7 +511,8 @@ inner-entry-returns-2 t c =
     let pos : a .so .n ≡ a .base + (a .slot .pos - a .base) = omega arith in
     let told = top .top-flaw .ensures ∙ ap (λ (n : ℕ). lengthOr (got .head .given .0 .0) n) (kind .inner-kind-flaw .ensures) ∙ inner-told (a .base) (depthAt (a .left)) _ in
     carried-as (c .placed .ensures ∙ ap (placedOf (a .base) (a .so .leaves)) (stop .stop-at .ensures)) (record {
-      right = inner-flawed (a .base) (a .slot .pos - a .base) (a .slot .end - a .base) (now (a .bytes)) (a .slot) (belowD (a .left) (a .top)) (a .top) (depthAt (a .left)) (a .so) (now (a .work)) (now (a .table)) here ends pos _ (sym (read .quick-head .ensures) ∙ got .head .given .1) (inside .pos) _ told (test .if1 .taken);
+      right = inner-flawed (a .base) (a .slot .pos - a .base) (a .slot .end - a .base) (now (a .bytes)) (a .slot) (belowD (a .left) (a .top)) (a .top)
+          (depthAt (a .left)) (a .so) (now (a .work)) (now (a .table)) here ends pos _ (sym (read .quick-head .ensures) ∙ got .head .given .1) (inside .pos) _ told (test .if1 .taken);
       work-long = refl;
       table-long = refl;
       stands = tt;
@@ -512,9 +531,16 @@ inner-entry-inner-body-requires t c κs =
     let stands = asks .stands in
     let inside = head-in (now (a .bytes)) (a .slot .pos - a .base) (a .slot .end - a .base) _ (sym (read .quick-head .ensures) ∙ got .head .given .1) in
     let flaw = sym (top .top-flaw .ensures ∙ ap (λ (n : ℕ). lengthOr (got .head .given .0 .0) n) (kind .inner-kind-flaw .ensures)) ∙ test .if1 .left in
-    let shallow = inner-shallow (depthAt (a .left)) _ flaw in
-    (omega (arith, start .pre .0), (asks, omega (arith, shallow, start .pre .1 .1), start .pre .1 .2, start .pre .1 .3,
-      record { here = omega arith; holds = inside .holds; long = inside .long; within = omega arith; there = omega arith }))
+    let shallow = inner-shallow (depthAt (a .left)) _ flaw in (
+      omega (arith, start .pre .0),
+      (
+        asks,
+        omega (arith, shallow, start .pre .1 .1),
+        start .pre .1 .2,
+        start .pre .1 .3,
+        record { here = omega arith; holds = inside .holds; long = inside .long; within = omega arith; there = omega arith },
+      ),
+    )
 
 inner-entry-same-length : (t : ℕ) → inner-entry-lts.Need-same-length (inner-entry-claims t) (inner-entry-at t) inner-entry.Post
 inner-entry-same-length t c = search needs
@@ -541,7 +567,8 @@ inner-entry-returns-3 t c =
     let told = top .top-flaw .ensures ∙ ap (λ (n : ℕ). lengthOr (got .head .given .0 .0) n) (kind .inner-kind-flaw .ensures) ∙ inner-told (a .base) (depthAt (a .left)) _ in
     let carried = done .inner-body .ensures in
     record {
-      right = carried .right ∙ sym (inner-clean (a .base) (a .slot .pos - a .base) (a .slot .end - a .base) (now (a .bytes)) (a .slot) (belowD (a .left) (a .top)) (a .top) (depthAt (a .left)) (a .so) (now (a .work)) (now (a .table)) here ends pos _ (sym (read .quick-head .ensures) ∙ got .head .given .1) (inside .pos) _ told (test .if1 .left));
+      right = carried .right ∙ sym (inner-clean (a .base) (a .slot .pos - a .base) (a .slot .end - a .base) (now (a .bytes)) (a .slot) (belowD (a .left) (a .top)) (a .top)
+          (depthAt (a .left)) (a .so) (now (a .work)) (now (a .table)) here ends pos _ (sym (read .quick-head .ensures) ∙ got .head .given .1) (inside .pos) _ told (test .if1 .left));
       work-long = carried .work-long;
       table-long = carried .table-long;
       stands = carried .stands;
@@ -568,16 +595,21 @@ under-entry-walk-requires t c κs =
     let start = loop .before .before .before .before in
     let a = start .args in
     let asks = start .pre .1 in
-    let area = asks .area in
-    (omega (arith, start .pre .0), (record {
-      some = asks .some;
-      most = asks .most;
-      next = inv .next;
-      count = omega (arith, inv .count, asks .count);
-      end = omega (arith, inv .end, asks .end);
-      area = omega (arith, inv .work-long);
-      stands = inv .stands;
-    }, test .if1 .taken))
+    let area = asks .area in (
+      omega (arith, start .pre .0),
+      (
+        record {
+          some = asks .some;
+          most = asks .most;
+          next = inv .next;
+          count = omega (arith, inv .count, asks .count);
+          end = omega (arith, inv .end, asks .end);
+          area = omega (arith, inv .work-long);
+          stands = inv .stands;
+        },
+        test .if1 .taken,
+      ),
+    )
 
 under-enum-known-entry : (t : ℕ) → under-lts.Need-enum-known-entry (under-claims t) (under-at t) under.Post under-Inv-loop under-μ-loop
 under-enum-known-entry t c = search needs

@@ -100,7 +100,7 @@ returns-3 c top depth inner work is =
     let on : Went = went.On (record { n = a .slot .end; now = a .slot .until; leaves = a .so .leaves + 1; last = got .leaf .given .0 .0 .last }) in
     record {
       right = ap (λ (t : List ℕ). wentD (a .base) (now (a .bytes)) work t on) put'
-        ∙ leaf-on (a .base) (now (a .bytes)) (a .so) work (now (a .table)) (a .slot) inner top depth _ _ _ _ read _ (got .leaf .given .1) (omega arith);
+          ∙ leaf-on (a .base) (now (a .bytes)) (a .so) work (now (a .table)) (a .slot) inner top depth _ _ _ _ read _ (got .leaf .given .1) (omega arith);
       work-long = refl;
       table-long = ap length put' ∙ put-length _ _ _;
       stands = record { after = omega arith; inside = omega arith; within = omega arith; timely = omega arith; few = omega arith };

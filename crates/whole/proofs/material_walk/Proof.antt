@@ -53,7 +53,8 @@ returns-2 c =
     let start = gap .before .before .before .before in
     let a = start .args in
     let carried = passed .under .ensures in
-    let read = material-stops (a .x) (a .n) _ (now (a .bytes)) (now (a .work)) (now (a .table)) _ (gap .gap-walk .ensures) refl (told .enum-told .given .1) _ _ _ (carried .right) (off .match2 .keys2) in
+    let read = material-stops (a .x) (a .n) _ (now (a .bytes)) (now (a .work)) (now (a .table)) _ (gap .gap-walk .ensures) refl
+    (told .enum-told .given .1) _ _ _ (carried .right) (off .match2 .keys2) in
     record {
       right = ap (segmentRead (now (a .bytes)) _ _) (c .material-refused .ensures) ∙ read;
       work-long = carried .work-long;
@@ -72,7 +73,8 @@ returns-3 c =
     let carried = passed .under .ensures in
     let stands = stands-on _ _ _ _ _ _ (got .material .given .1) (carried .stands) in
     record {
-      right = material-done (a .x) (a .n) _ (now (a .bytes)) (now (a .work)) (now (a .table)) _ (gap .gap-walk .ensures) refl (told .enum-told .given .1) _ _ _ (carried .right) _ (got .material .given .1);
+      right = material-done (a .x) (a .n) _ (now (a .bytes)) (now (a .work)) (now (a .table)) _ (gap .gap-walk .ensures) refl
+          (told .enum-told .given .1) _ _ _ (carried .right) _ (got .material .given .1);
       work-long = carried .work-long;
       table-long = carried .table-long;
       within = omega arith;
