@@ -43,7 +43,7 @@ use Rattle.next_stage.specs.Views.{viewStage}
 use Rattle.levels.specs.declared.EntryRead.{EntryRead}
 use Rattle.levels.specs.declared.EntryRead.the-variants as read
 use Rattle.levels.specs.Views.{readOf}
-use Rattle.stage.proofs.Entries.{chosen, altered-told}
+use Rattle.levels.proofs.Chosen.{chosen, altered-told}
 use Rattle.number_at_hand.specs.declared.AtHand.{AtHand}
 use Rattle.number_at_hand.specs.Views.{isStored, nextPlace, atHandOf}
 use Rattle.byte.specs.Answers.{answered, stepped}

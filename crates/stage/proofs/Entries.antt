@@ -2,9 +2,8 @@
 use Prim.Native.Nat.{ℕ, _≤_, _<_}
 use mathlib.Core.Path.{_≡_, refl, ap, sym, subst, _∙_}
 use mathlib.Core.List.{List, [], _∷_, _++_}
-use mathlib.Core.Bool.{Bool, true, false}
+use mathlib.Core.Bool.{Bool}
 use native.Mathlib.Omega.{arith}
-use Rattle.basics.specs.Choose.{pick}
 use Rattle.machine.specs.Faults.{refusal, shows, lowest, unless}
 use Rattle.machine.specs.Run.{Sub, bad}
 use Rattle.machine.specs.Lists.{stepBox}
@@ -33,6 +32,7 @@ use Rattle.state.proofs.RangeTests.{within-second, three-within, four-within}
 use Rattle.levels.specs.Views.{readOf}
 use Rattle.levels.specs.declared.EntryRead.{EntryRead}
 use Rattle.levels.specs.declared.EntryRead.the-variants as read
+use Rattle.levels.proofs.Chosen.{chosen, altered-told}
 use Rattle.next_stage.specs.declared.Running.{Running}
 use Rattle.next_stage.specs.declared.StageStep.{StageStep}
 use Rattle.next_stage.specs.Views.{flowing, viewStage}
@@ -47,17 +47,6 @@ module _ (top : Top) (ls : Levels) (f : Flow) (n b : ℕ) where
   unfolding stepStage
   inner-step slot d (inners.Head h) e = ap (λ (k : ℕ). liftInner top ls slot (stepBox (innerKind top slot k) (innerPhase (inners.Head h)) f n b)) e
   inner-step slot d (inners.Body span s) e = ap (λ (k : ℕ). liftInner top ls slot (stepBox (innerKind top slot k) (innerPhase (inners.Body span s)) f n b)) e
-
--- what an entry read back comes to, by whether it was altered
-pub chosen : (t i inner : Bool) (s slot : Slot) → pick t read.Altered (read.Stands i s) ≡ read.Stands inner slot → (t ≡ false) × (i ≡ inner) × (s ≡ slot)
-unfolding pick
-chosen true i inner s slot e = let y : _≡_ {A = ℕ} 0 1 = cc in absurd (omega arith)
-chosen false i inner s slot e = (refl, cc, cc)
-
-pub altered-told : (t i : Bool) (s : Slot) → pick t read.Altered (read.Stands i s) ≡ read.Altered → t ≡ true
-unfolding pick
-altered-told true i s e = refl
-altered-told false i s e = let y : _≡_ {A = ℕ} 0 1 = cc in absurd (omega arith)
 
 module _ (top : Top) (ls : Levels) (f : Flow) (n b : ℕ) (r : EntryRead) (k : r ≡ readOf (inmost ls) (entryAt (f .work) (entryPlace ls)) (f .now) n) where
   -- an entry that is not what its index stored

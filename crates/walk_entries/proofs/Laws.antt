@@ -29,10 +29,9 @@ use Rattle.state.specs.Flow.{Flow, Left, left, withWork, listed, levelBytes}
 use Rattle.state.specs.Calls.{flowOf}
 use Rattle.state.specs.Levels.{altered, entryAt, entryFaults, slotOf, took}
 use Rattle.state.specs.Stages.{leafRecord, innerLevel}
-use Rattle.segment.specs.Constants.{limit, typeBit, entryBytes}
+use Rattle.segment.specs.Constants.{limit, entryBytes}
 use Rattle.state.proofs.Phases.{Unaltered, unaltered}
 use Rattle.levels.specs.Views.{readOf}
-use Rattle.levels.specs.declared.EntryRead.the-variants as read
 use Rattle.descent.specs.Whole.{UnderD, slotD, readBackD, entryPartD, entryPartsD, underD}
 use Rattle.descent.specs.Leaf.{leafD}
 use Rattle.fields.specs.Onward.{onHead}
@@ -93,22 +92,6 @@ module _ (base : ℕ) (s : List ℕ) (so : Reached) (work table : List ℕ) wher
   index-out end work' k (answer.Read x) t = not-first refl t
   index-out end work' k (answer.Bad x) t = refl
   index-out end work' k answer.Ended t = refl
-
--- what an entry read back comes to, by whether it was altered
-pub chosen : (t i inner : Bool) (s slot : Slot) → pick t read.Altered (read.Stands i s) ≡ read.Stands inner slot → (t ≡ false) × (i ≡ inner) × (s ≡ slot)
-unfolding pick
-chosen true i inner s slot e = let y : _≡_ {A = ℕ} 0 1 = cc in absurd (omega arith)
-chosen false i inner s slot e = (refl, cc, cc)
-
-pub altered-told : (t i : Bool) (s : Slot) → pick t read.Altered (read.Stands i s) ≡ read.Altered → t ≡ true
-unfolding pick
-altered-told true i s e = refl
-altered-told false i s e = let y : _≡_ {A = ℕ} 0 1 = cc in absurd (omega arith)
-
--- an entry's size is below its type's bit
-pub entry-small : (w : List ℕ) (i : ℕ) (e : StoredEntry) → e ≡ entryAt w i → e .size < typeBit
-unfolding entryAt
-entry-small w i e is = rw is (omega arith)
 
 -- A leaf entry.
 module _ (base : ℕ) (s : List ℕ) (so : Reached) (work table : List ℕ) (slot : Slot) (inner : UnderD) (top : Top) (depth end n : ℕ) (bs : List ℕ) (r : Walked)

@@ -26,7 +26,8 @@ use Rattle.walk_entries.specs.Views.{flowAt, wentD, belowD, depthAt, ent
 use Rattle.walk_entries.specs.declared.Reached.{Reached}
 use Rattle.walk_entries.specs.declared.Went.{Went}
 use Rattle.walk_entries.specs.declared.Went.the-variants as went
-use Rattle.walk_entries.proofs.Laws.{chosen, altered-told, entry-ends, entry-there, back-altered, slot-asks, entry-carried, carried-as, index-low, index-nowhere, head-nowhere}
+use Rattle.levels.proofs.Chosen.{chosen, altered-told}
+use Rattle.walk_entries.proofs.Laws.{entry-ends, entry-there, back-altered, slot-asks, entry-carried, carried-as, index-low, index-nowhere, head-nowhere}
 use Rattle.walk_entries.proofs.Laws.{entry-off, entry-on, entries-over, stands-on, went-nowhere, Going}
 use Rattle.walk_entries.proofs.Inner.{inner-told, inner-shallow, inner-off, inner-flawed, inner-clean, body-off, body-on, index-fixed, head-low}
 use Rattle.walk_entries.proofs.entry_walk.Reads as entry-walk

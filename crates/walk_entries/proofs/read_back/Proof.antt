@@ -8,7 +8,7 @@ use Rattle.state.specs.Flow.{levelBytes}
 use Rattle.state.specs.Levels.{entryAt}
 use Rattle.state.specs.declared.StoredEntry.{StoredEntry}
 use Rattle.levels.specs.Views.{readOf}
-use Rattle.walk_entries.proofs.Laws.{entry-small}
+use Rattle.levels.proofs.Places.{entry-small}
 use borrow.Author.Needs.{needs}
 use Rattle.walk_entries.proofs.read_back.Statement.{statement}
 use Rattle.walk_entries.proofs.read_back.Tie as tie
@@ -16,8 +16,7 @@ use Rattle.walk_entries.proofs.read_back.Tie as tie
 entry-answer-requires : tie.Need-entry-answer-requires
 entry-answer-requires c κs =
     let start = c .before .before .before in
-    let small = entry-small _ _ _ (c .entry-at .ensures) in
-    (omega arith, omega arith, omega arith, small)
+    (omega arith, omega arith, omega arith, rw (c .entry-at .ensures) (entry-small _ _))
 
 returns : tie.Need-returns
 returns c =
