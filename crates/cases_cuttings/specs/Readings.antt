@@ -3,13 +3,13 @@ use Prim.Native.Nat.{ℕ, zero, suc, _+_, min}
 use mathlib.Core.Path.{_≡_}
 use mathlib.Core.Bool.{Bool, true}
 use mathlib.Core.Logic.{_↔_}
-use mathlib.Core.List.{List, [], _∷_}
-use lib.ListN.{length, take, replicate}
-use Rattle.basics.specs.Bytes.{number}
+use mathlib.Core.List.{List}
+use lib.ListN.{length}
 use Rattle.state.specs.Calls.{Out, startOf, feedOf, finishOf}
 use Rattle.state.specs.Cutting.{Held, held, heldAfter, feedHeld}
 use Rattle.state.specs.declared.State.{State}
 use Rattle.state.specs.declared.FeedAnswer.{FeedAnswer}
+use Rattle.cases_data.specs.Lent.{msdh}
 use Rattle.cases_data.specs.Parts.{bytesFrom, SameLevels, SameNumbers}
 use Rattle.cases_trial.specs.Ends.{endOf, answerAt}
 use Rattle.cases_trial.specs.declared.alike.End.{End}
@@ -30,7 +30,7 @@ Answer end (suc k) segment long from to h =
 
 -- before the first byte, the brand `msdh` wanted
 abbrev pub begun : List ℕ → List ℕ → Held
-begun work table = held (startOf (number (109 ∷ 115 ∷ 100 ∷ 104 ∷ []))) work table
+begun work table = held (startOf msdh) work table
 
 -- a segment cut so and fed; and what finish answers and leaves then
 abbrev pub cutFed : List ℕ → Cutting → List ℕ → List ℕ → Held
@@ -90,10 +90,3 @@ abbrev pub PiecesAlike : List ℕ → ℕ → End → List ℕ → List ℕ → 
 PiecesAlike segment long end work table own-work own-table =
     let r = cutFed segment (inPieces segment long) own-work own-table in
     (Alike end segment (inPieces segment long) own-work own-table × (r .work ≡ work)) × SameNumbers (r .table) table 1536
-
--- the buffers before a reading: each byte is 165, and each number that of eight such bytes
-abbrev pub lentWork : List ℕ
-lentWork = replicate 49152 165
-
-abbrev pub lentTable : List ℕ
-lentTable = replicate 1536 11936128518282651045

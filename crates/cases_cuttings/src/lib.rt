@@ -1,5 +1,5 @@
-// A segment read whole, printed, and read again in pieces: byte by byte, in pieces of three and of five bytes, so that a number begins
-// in one and goes on and ends in others, and in two pieces cut at every place where it is short.
+// A segment fed in one piece, printed, and read again: by the whole reader, and in pieces, byte by byte, of three and of five bytes, so
+// that a number begins in one and goes on and ends in others, and in two pieces cut at every place where it is short.
 // Every reading starts with buffers that hold the same.
 use cases_data::buffers::FILL_BYTE;
 use cases_data::buffers::FILL_NUMBER;
@@ -19,6 +19,7 @@ use cases_trial::alike::same_end;
 use cases_trial::prints::print;
 use cases_trial::prints::print_listing;
 use cases_trial::prints::print_number;
+use cases_whole::check_whole;
 use feed::feed;
 use feed::finish;
 use feed::start;
@@ -26,7 +27,8 @@ ghost use Prim.Native.Nat.{_+_, min};
 ghost use mathlib.Core.Path.{_≡_};
 ghost use mathlib.Core.Bool.{true, _&&_};
 ghost use mathlib.Core.Logic.{_↔_};
-ghost use Rattle.cases_cuttings.specs.Readings.{ReadIn, ReadWhole, ReadsAlike, CutAlike, PiecesAlike, lentWork, lentTable};
+ghost use Rattle.cases_data.specs.Lent.{lentWork, lentTable};
+ghost use Rattle.cases_cuttings.specs.Readings.{ReadIn, ReadWhole, ReadsAlike, CutAlike, PiecesAlike};
 
 // The longest segment that is cut at every place.
 const SHORT: usize = 512;
@@ -207,8 +209,9 @@ fn check_pieces(segment: &[u8], length: usize, end: End, work: &[u8], table: &[u
     }
 }
 
-// A segment read again in pieces; the tally with these readings.
+// A segment read again, by the whole reader and in pieces; the tally with the readings in pieces.
 fn check_alike(segment: &[u8], end: End, work: &[u8], table: &[u64], tally: Tally) -> Tally {
+    check_whole(segment, end, work, table);
     check_pieces(segment, 1, end, work, table);
     check_pieces(segment, 3, end, work, table);
     check_pieces(segment, 5, end, work, table);

@@ -60,6 +60,10 @@ module _ (a b : List ℕ) (i : ℕ) (alike : take i a ≡ take i b) where
     λ same. eq-eqb (length a) (length b) (same .0),
   )
 
+-- lists that are alike in as many first elements as one of them has
+pub alike-full : (a b : List ℕ) (n : ℕ) → length a ≤ n → ((length a ≡ length b) × (take n a ≡ take n b)) ↔ (a ≡ b)
+alike-full a b n h = (λ w. alike-whole a b n (w .1) (w .0) h, λ e. (ap length e, ap (take n) e))
+
 -- lists that differ at a place among the first n are not alike in these
 pub unlike-first : (a b : List ℕ) (n i : ℕ) → i < n → (getD a i 0 ≡ getD b i 0 → ⊥) → (length a ≡ length b) × (take n a ≡ take n b) → ⊥
 unlike-first a b n i h differs same =

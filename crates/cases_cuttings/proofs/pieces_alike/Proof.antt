@@ -6,8 +6,9 @@ use mathlib.Core.Logic.{_↔_, ⊎-elim}
 use mathlib.Core.List.{List}
 use Rattle.cases_data.proofs.Alike.{both-taken, both-left}
 use Rattle.cases_cuttings.proofs.Pieces.{same-cut}
+use Rattle.cases_data.specs.Lent.{lentWork, lentTable}
 use Rattle.cases_data.specs.Parts.{SameNumbers}
-use Rattle.cases_cuttings.specs.Readings.{Alike, inPieces, cutFed, lentWork, lentTable}
+use Rattle.cases_cuttings.specs.Readings.{Alike, inPieces, cutFed}
 use borrow.Author.Needs.{needs}
 use Rattle.cases_cuttings.proofs.pieces_alike.Statement.{statement}
 use Rattle.cases_cuttings.proofs.pieces_alike.Tie as tie
