@@ -1,0 +1,1 @@
+// The state as numbers at fixed places. Definitions and proofs only.
