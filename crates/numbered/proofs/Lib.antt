@@ -1,3 +1,4 @@
 pub mod RoundTrip
 pub mod Lengths
 pub mod Unpacks
+pub mod Facts

@@ -7,11 +7,10 @@ use borrow.Author.Needs.{needs}
 use Rattle.pack.proofs.put.numbers_of.Statement.{statement}
 use Rattle.pack.proofs.put.numbers_of.Tie as tie
 
-pub numbers-of-spec : {M : Type 1} → statement M
-numbers-of-spec =
-    tie.close
-    (tie.spec
-    (search needs) (search needs)
-    (λ c.
+returns : tie.Need-returns
+returns c =
     let at-asked = c .before .before .before in
-    c .before .put-state .ensures ∙ put-into-zeros 57 (usedNumbers (at-asked .args .s)) (used-length (at-asked .args .s))))
+    c .before .put-state .ensures ∙ put-into-zeros 57 (usedNumbers (at-asked .args .s)) (used-length (at-asked .args .s))
+
+pub numbers-of-spec : {M : Type 1} → statement M
+numbers-of-spec = tie.close (tie.spec (search needs) (search needs) returns)
