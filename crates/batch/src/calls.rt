@@ -18,7 +18,8 @@ use state::State;
 use table::Record;
 use whole::whole;
 
-const WORK_BYTES: usize = 49152;
+// The least bytes of a work area.
+pub const WORK_BYTES: usize = 49152;
 
 // A refusal that is given at the call.
 fn refused_with(number: u64) -> [u64; 8] {

@@ -2,6 +2,7 @@
 ghost use Prim.Native.Nat.{_≤_};
 ghost use mathlib.Core.Path.{_≡_};
 ghost use lib.ListN.{length};
+use crate::calls::WORK_BYTES;
 use crate::calls::call;
 use crate::changes::put_changed_bytes;
 use crate::changes::put_changed_numbers;
@@ -20,6 +21,7 @@ use crate::lending::write_numbers;
 use crate::output::put_number;
 use crate::output::put_numbers;
 use crate::output::write_out;
+use pack::STATE_NUMBERS;
 
 mod calls;
 mod changes;
@@ -244,8 +246,8 @@ fn serve_all(
     out: &mut [u8],
 ) {
     let mut lent = Lent {
-        state: 57,
-        work: 49152,
+        state: STATE_NUMBERS,
+        work: WORK_BYTES,
         table: 0,
         open: true,
     };

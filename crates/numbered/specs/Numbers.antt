@@ -1,5 +1,5 @@
--- The state as numbers at fixed places: docs/STATE.md, "The state as numbers", block by block in its order. A type with cases is a tag
--- and the numbers of the case.
+-- The state as numbers at fixed places: docs/STATE.md, "The state as numbers", block by block. A type with cases is a tag and the
+-- numbers of the case.
 use Prim.Native.Nat.{ℕ, _-_}
 use mathlib.Core.List.{List, [], _∷_, _++_}
 use mathlib.Core.Bool.{Bool}

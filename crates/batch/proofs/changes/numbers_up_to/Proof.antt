@@ -37,4 +37,5 @@ pub numbers-up-to-spec : {M : Type 1} → statement M
 numbers-up-to-spec =
     tie.close
     (tie.spec
-    Inv-loop μ-loop (λ c. (omega arith, omega arith, λ j h k. absurd (omega arith))) (λ c. search needs) (λ c. omega arith) (λ c. search needs) (λ c. omega arith) returns (λ c. omega arith) (λ c. omega arith) loop-again returns-2)
+    Inv-loop μ-loop (λ c. (omega arith, omega arith, λ j h k. absurd (omega arith)))
+    (λ c. search needs) (λ c. omega arith) (λ c. search needs) (λ c. omega arith) returns (λ c. omega arith) (λ c. omega arith) loop-again returns-2)
