@@ -39,13 +39,13 @@ fn one_state(session: &mut Session) {
     if session.random.chance(25) {
         // Calls that need no bytes, on the state as it was made.
         last_calls(session, &[]);
-        session.calls.extend_from_slice(&lent);
+        session.lend_again(&lent);
     }
     let to = if session.random.chance(40) { session.random.pick(&ends) } else { bytes.len() };
     feed_some(session, &bytes[..to], &ends);
     if session.random.chance(60) {
         // The same again in other parts, which has to come to the same.
-        session.calls.extend(lent);
+        session.lend_again(&lent);
         feed_some(session, &bytes[..to], &ends);
     }
     last_calls(session, &bytes[..to]);

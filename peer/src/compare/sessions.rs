@@ -102,6 +102,18 @@ impl<'a> Session<'a> {
         self.calls.push(Call::LendTable { numbers, each });
     }
 
+    /// The same lent again, as these calls did it.
+    pub fn lend_again(&mut self, lent: &[Call]) {
+        for call in lent {
+            match call {
+                Call::LendWork { bytes, .. } => self.work = *bytes,
+                Call::LendTable { numbers, .. } => self.table = *numbers,
+                _ => (),
+            }
+            self.calls.push(call.clone());
+        }
+    }
+
     /// Writes into the work area as much as lies inside it.
     pub fn write_work(&mut self, at: usize, mut bytes: Vec<u8>) {
         bytes.truncate(self.work.saturating_sub(at));

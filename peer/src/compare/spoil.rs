@@ -81,7 +81,8 @@ fn size_changed(written: &mut Written, random: &mut Random) {
     bytes::set(&mut written.bytes, &field, number);
 }
 
-/// The top index gets an entry or a first offset with which the material ends at the limit, or one byte past it.
+/// The top index gets an entry or a first offset with which the material ends at the limit, or one byte past it; or a first offset that
+/// is so large that the sum would come round to a small one.
 fn material_to_the_limit(written: &mut Written, random: &mut Random) {
     let Some(top) = written.indexes.first() else { return };
     let Some(end) = top.entries.last().map(|entry| entry.end) else { return };
@@ -89,6 +90,8 @@ fn material_to_the_limit(written: &mut Written, random: &mut Random) {
     let entry = Field { what: What::EntrySize, at: random.pick(&top.entries).entry_at, width: 4 };
     let offset = written.fields.iter().find(|field| field.what == What::Offset).copied();
     let field = if random.chance(50) { entry } else { offset.unwrap_or(entry) };
+    let round = random.within(1..=end as u64).wrapping_neg();
+    let more = if field.width == 8 && random.chance(40) { round } else { more };
     if is_inside(written, &field) {
         let now = bytes::value(&written.bytes, &field);
         bytes::set(&mut written.bytes, &field, now.wrapping_add(more));
