@@ -84,13 +84,17 @@ fn finished(answer: FinishAnswer) -> [u64; 8] {
     }
 }
 
-// Feed checks 1 before it looks at the state.
-fn feed_call(part: &[u8], state: &mut [u64], work: &mut [u8], table: &mut [u64]) -> [u64; 8] {
-    if work.len() < WORK_BYTES {
+// What is no state is answered as feed answers one from outside the ranges: it checks 1 before it looks at the state.
+fn nothing_to_feed(work: usize) -> [u64; 8] {
+    if work < WORK_BYTES {
         return refused_with(1);
     }
+    refused_with(2)
+}
+
+fn feed_call(part: &[u8], state: &mut [u64], work: &mut [u8], table: &mut [u64]) -> [u64; 8] {
     let Unpacked::Found(s) = unpack(state) else {
-        return refused_with(2);
+        return nothing_to_feed(work.len());
     };
     let after = feed(s, part, work, table);
     let answer = after.answer;
