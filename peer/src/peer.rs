@@ -84,12 +84,14 @@ impl Peer {
 
     /// What is wrong with an answer to a call whose outcome is known.
     fn wrong(&self, said: &Said, answer: &Answer) -> Option<String> {
-        let alike = said.state.len() == answer.state.len()
-            && said.state.iter().zip(&answer.state).all(|(said, is)| said.is_none_or(|said| said == *is));
+        let other = said.state.iter().zip(&answer.state).position(|(said, is)| said.is_some_and(|said| said != *is));
         if said.said != answer.said {
             Some(format!("expected {:?}, came {:?}", said.said, answer.said))
-        } else if !alike {
-            Some(format!("expected the state {}, came {:?}", shown(&said.state), answer.state))
+        } else if said.state.len() != answer.state.len() {
+            Some(format!("expected a state of {} numbers, came {}", said.state.len(), answer.state.len()))
+        } else if let Some(at) = other {
+            let expected = said.state[at].unwrap_or(0);
+            Some(format!("expected {expected} at place {at} of the state, came {}: {}", answer.state[at], shown(&said.state)))
         } else if answer.state != self.state && !is_state(&answer.state) {
             Some(format!("the state handed back is outside the ranges: {:?}", answer.state))
         } else if said.work != answer.work {

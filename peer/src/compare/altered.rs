@@ -91,8 +91,11 @@ fn alter(random: &mut Random, written: &Written, index: &WrittenIndex, number: u
     let last = entries.len() - 1;
     let any = random.word();
     let by = random.pick(&[1, 1, 2, 8, any]);
+    // All that remains of the index, which is too much while entries follow.
+    let all = index.entries.last().map_or(0, |covered| covered.end).saturating_sub(index.entries[number].at);
+    let remaining = all as u32 | (entries[number][0] & (1 << 31));
     match random.below(12) {
-        0 => entries[number][0] = random.pick(&[0, 1 << 31, u32::MAX, entries[number][0].wrapping_add(by)]),
+        0 => entries[number][0] = random.pick(&[0, 1 << 31, u32::MAX, remaining, remaining, entries[number][0].wrapping_add(by)]),
         1 => entries[number][0] = entries[number][0].wrapping_sub(by),
         2 => entries[number][1] = entries[number][1].wrapping_add(by),
         3 => entries[number][1] = random.pick(&[0, entries[number][1].wrapping_sub(by), u32::MAX]),

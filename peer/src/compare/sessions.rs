@@ -7,6 +7,7 @@ use super::long;
 use super::random::Random;
 use super::reading;
 use super::sequence::Sequence;
+use super::shrink::is_of_the_form;
 use crate::calls::{Call, STATE_NUMBERS};
 
 /// The least that a work area has.
@@ -22,6 +23,9 @@ pub fn sequence(seed: u64, number: u64) -> Sequence {
     }
     let mut session = Session::new(&mut random);
     session.fill();
+    if !is_of_the_form(&session.calls) {
+        session.doubt = Some("a command of this sequence is not of the form of docs/BATCH.md: it is wrongly made".to_string());
+    }
     Sequence { lead: session.calls, doubt: session.doubt, ..Sequence::default() }
 }
 
@@ -208,7 +212,6 @@ impl<'a> Session<'a> {
 mod tests {
     use super::*;
     use crate::calls::{Answer, Source};
-    use crate::compare::shrink::is_of_the_form;
     use crate::compare::stand_in::StandIn;
 
     #[test]
