@@ -1,7 +1,13 @@
 //! Calls and answers in the binary form of docs/BATCH.md.
 
+use crate::time::{Mark, Request};
+
 /// How many numbers a state has.
 pub const STATE_NUMBERS: usize = 57;
+
+/// How many numbers say what a call answered, and the place of the page among them.
+pub const SAID: usize = 9;
+pub const PAGE: usize = 8;
 
 /// A command of docs/BATCH.md: a call, or something lent from now on.
 #[derive(Clone, Debug, PartialEq, Eq)]
@@ -10,7 +16,8 @@ pub enum Call {
     Feed(Vec<u8>),
     Finish,
     Whole { brand: u32, segment: Vec<u8> },
-    Lookup(u64),
+    Lookup(Request),
+    Mark(Mark),
     LendState(Vec<u64>),
     LendWork { bytes: usize, each: u8 },
     LendTable { numbers: usize, each: u64 },
@@ -28,8 +35,8 @@ pub struct Run<T> {
 /// What the program writes of a call.
 #[derive(Clone, Debug, PartialEq, Eq)]
 pub struct Answer {
-    /// The refusal's number or 0; the place or what is answered; the record that a lookup found.
-    pub said: [u64; 8],
+    /// The refusal's number or 0; the place or what is answered; the record of the leaf that was found; the page of a mark.
+    pub said: [u64; SAID],
     pub state: Vec<u64>,
     pub work: Vec<Run<u8>>,
     pub table: Vec<Run<u64>>,
@@ -38,7 +45,8 @@ pub struct Answer {
 impl Call {
     /// Whether the program answers it; what is only lent is not answered.
     pub fn is_answered(&self) -> bool {
-        matches!(self, Call::Start { .. } | Call::Feed(_) | Call::Finish | Call::Whole { .. } | Call::Lookup(_))
+        let is_lookup = matches!(self, Call::Lookup(_) | Call::Mark(_));
+        is_lookup || matches!(self, Call::Start { .. } | Call::Feed(_) | Call::Finish | Call::Whole { .. })
     }
 
     /// Writes the command behind what `out` holds.
@@ -54,7 +62,9 @@ impl Call {
                 head(out, 4, u64::from(*brand), segment.len() as u64);
                 out.extend_from_slice(segment);
             }
-            Call::Lookup(time) => head(out, 5, *time, 0),
+            Call::Lookup(Request::Ticks(ticks)) => head(out, 5, *ticks, 0),
+            Call::Lookup(Request::Seconds(bits)) => head(out, 6, *bits, 0),
+            Call::Mark(mark) => head(out, 7, mark.seconds, u64::from(mark.page)),
             Call::LendState(numbers) => {
                 head(out, 11, numbers.len() as u64, 0);
                 put_all(out, numbers);
@@ -80,7 +90,9 @@ impl Call {
             2 => Call::Feed(from.bytes(a)?),
             3 => Call::Finish,
             4 => Call::Whole { brand: a as u32, segment: from.bytes(b)? },
-            5 => Call::Lookup(a),
+            5 => Call::Lookup(Request::Ticks(a)),
+            6 => Call::Lookup(Request::Seconds(a)),
+            7 => Call::Mark(Mark { page: b as u32, seconds: a }),
             11 => Call::LendState(from.numbers(a)?),
             12 => Call::LendWork { bytes: usize::try_from(a).ok()?, each: b as u8 },
             13 => Call::LendTable { numbers: usize::try_from(a).ok()?, each: b },
@@ -113,7 +125,7 @@ impl Answer {
 
     /// The next answer, or `None` where the bytes end.
     pub fn read(from: &mut Source) -> Option<Answer> {
-        let said = from.numbers(8)?.try_into().ok()?;
+        let said = from.numbers(SAID as u64)?.try_into().ok()?;
         let count = from.number()?;
         let state = from.numbers(count)?;
         let work = from.runs(Source::bytes)?;

@@ -1,7 +1,7 @@
 //! A feed on a reading state that was put in by hand. What came before such a state is not known, so what the feed comes to can be said
 //! only where the next byte decides it. For the rest there is what must hold: the rules leave most of what is lent as it was.
 
-use crate::calls::{Answer, Run, STATE_NUMBERS};
+use crate::calls::{Answer, Run, SAID, STATE_NUMBERS};
 use crate::faults::Fault;
 use crate::lent::{entry_place, room, Area, Store, RECORD, WORK};
 use crate::ranges::is_state;
@@ -83,7 +83,7 @@ fn wrong_answer(all: bool, answer: &Answer) -> Option<String> {
         _ => false,
     };
     let kept = number == 0 || (tag == REFUSED && answer.state[3..5] == [number, place]);
-    (!tells || !kept || rest != [0; RECORD]).then(|| format!("answer {:?} with the state {:?}", answer.said, answer.state))
+    (!tells || !kept || rest != [0; SAID - 2]).then(|| format!("answer {:?} with the state {:?}", answer.said, answer.state))
 }
 
 /// The brand wanted and what the top index said stay.

@@ -1,6 +1,8 @@
 //! The lookup in a leaf table of any contents.
 
 use crate::lent::RECORD;
+use crate::natural::Natural;
+use crate::time::{Request, Time};
 
 /// The places of start and duration in a record.
 const START: usize = 2;
@@ -13,22 +15,26 @@ pub enum Found {
     Refused(u64),
 }
 
-/// The lowest-numbered record that covers the time (rule 7), over the records of so many leaves (rows 23, 24, 25 and R16).
-pub fn lookup(table: &[u64], leaves: u64, time: u64) -> Found {
+/// The lowest-numbered record that covers the time asked for (rule 7), over the records of so many leaves; the order is 25, 26, then the
+/// leaf, 23 or 24 (R16, R20).
+pub fn lookup(table: &[u64], leaves: u64, scale: u64, request: Request) -> Found {
     let needed = usize::try_from(leaves).ok().and_then(|leaves| leaves.checked_mul(RECORD));
     let Some(listed) = needed.and_then(|needed| table.get(..needed)) else {
         return Found::Refused(25);
     };
-    let covering = (1..).zip(listed.chunks_exact(RECORD)).find(|(_, record)| covers(record, time));
+    let Some(time) = request.time(scale) else {
+        return Found::Refused(26);
+    };
+    let covering = (1..).zip(listed.chunks_exact(RECORD)).find(|(_, record)| covers(record, &time));
     match (covering, listed.get(START)) {
         (Some((number, record)), _) => Found::Leaf { number, record: std::array::from_fn(|k| record[k]) },
-        (None, Some(start)) if time < *start => Found::Refused(23),
+        (None, Some(start)) if time.is_before(&Natural::from(*start)) => Found::Refused(23),
         _ => Found::Refused(24),
     }
 }
 
 /// Whether start ≤ time < start + duration, the sum exact past 64 bits.
-fn covers(record: &[u64], time: u64) -> bool {
-    let (start, duration, time) = (u128::from(record[START]), u128::from(record[DURATION]), u128::from(time));
-    start <= time && time < start + duration
+fn covers(record: &[u64], time: &Time) -> bool {
+    let (start, duration) = (Natural::from(record[START]), Natural::from(record[DURATION]));
+    !time.is_before(&start) && time.is_before(&start.plus(&duration))
 }

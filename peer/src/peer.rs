@@ -1,6 +1,6 @@
 //! The peer: what document 01 says of each call, given all the calls before it.
 
-use crate::calls::{Answer, Call, Run, STATE_NUMBERS};
+use crate::calls::{Answer, Call, Run, PAGE, SAID, STATE_NUMBERS};
 use crate::faults::Fault;
 use crate::handmade::{self, Lent};
 use crate::lent::{room, table_runs, work_runs, write, write_runs, Store, WORK};
@@ -8,11 +8,15 @@ use crate::lookup::{lookup, Found};
 use crate::ranges::is_state;
 use crate::reading::{End, Outcome, Reading};
 use crate::state::{self, Numbers, ACCEPTED, ENDED, READING, REFUSED};
+use crate::time::{Mark, Request};
 use crate::tree::LIMIT;
 
 /// The longest work area and table that can be lent: docs/BATCH.md.
 const MOST_WORK: usize = 65_536;
 const MOST_TABLE: usize = 32_768;
+
+/// The place of the timescale in the state of an accepted finish: docs/STATE.md.
+const SCALE: usize = 4;
 
 /// What was expected and what came, in plain words.
 #[derive(Clone, Debug)]
@@ -23,7 +27,7 @@ pub struct Difference {
 /// The peer's own answer; `None` in the state where it cannot say the number.
 #[derive(Clone, Debug, PartialEq, Eq)]
 pub struct Said {
-    pub said: [u64; 8],
+    pub said: [u64; SAID],
     pub state: Vec<Option<u64>>,
     pub work: Vec<Run<u8>>,
     pub table: Vec<Run<u64>>,
@@ -139,7 +143,8 @@ impl Peer {
             Call::Feed(part) => self.feed(part),
             Call::Finish => Some(self.finish()),
             Call::Whole { brand, segment } => Some(self.whole(u64::from(*brand), segment)),
-            Call::Lookup(time) => Some(self.lookup(*time)),
+            Call::Lookup(request) => Some(self.lookup(*request)),
+            Call::Mark(mark) => Some(self.resolve(*mark)),
             _ => None,
         }
     }
@@ -260,22 +265,29 @@ impl Peer {
         }
     }
 
-    /// Lookup checks 2, 22, 25, then the records.
-    fn lookup(&self, time: u64) -> Said {
+    /// Lookup checks 2, 22, 25, 26, then the records.
+    fn lookup(&self, request: Request) -> Said {
         if !is_state(&self.state) {
             return self.unchanged(2, 0);
         }
         if self.state[0] != ACCEPTED {
             return self.unchanged(22, 0);
         }
-        match lookup(&self.table, self.state[2], time) {
+        match lookup(&self.table, self.state[2], self.state[SCALE], request) {
             Found::Refused(number) => self.unchanged(number, 0),
             Found::Leaf { number, record } => {
                 let mut found = self.unchanged(0, number);
-                found.said[2..].copy_from_slice(&record);
+                found.said[2..PAGE].copy_from_slice(&record);
                 found
             }
         }
+    }
+
+    /// A mark is answered with its page and with what a lookup of its seconds gives, a refusal too (R20).
+    fn resolve(&self, mark: Mark) -> Said {
+        let mut resolved = self.lookup(Request::Seconds(mark.seconds));
+        resolved.said[PAGE] = u64::from(mark.page);
+        resolved
     }
 
     /// An answer that leaves everything as it is.
@@ -290,17 +302,19 @@ impl Peer {
 
 /// An answer that leaves the work area and the table as they are.
 fn plain(number: u64, second: u64, state: Numbers) -> Said {
-    Said { said: [number, second, 0, 0, 0, 0, 0, 0], state, work: Vec::new(), table: Vec::new() }
+    Said { said: [number, second, 0, 0, 0, 0, 0, 0, 0], state, work: Vec::new(), table: Vec::new() }
 }
 
-/// The call, in a word or two.
-fn name(call: &Call) -> String {
+/// The call, in a few words.
+pub fn name(call: &Call) -> String {
     match call {
         Call::Start { .. } => "start".to_string(),
         Call::Feed(part) => format!("feed of {} bytes", part.len()),
         Call::Finish => "finish".to_string(),
         Call::Whole { segment, .. } => format!("whole reader of {} bytes", segment.len()),
-        Call::Lookup(time) => format!("lookup of {time}"),
+        Call::Lookup(Request::Ticks(ticks)) => format!("lookup of {ticks} ticks"),
+        Call::Lookup(Request::Seconds(bits)) => format!("lookup of seconds {bits:#018x}"),
+        Call::Mark(mark) => format!("mark of page {}, seconds {:#018x}", mark.page, mark.seconds),
         _ => "what is lent".to_string(),
     }
 }

@@ -73,8 +73,8 @@ fn outcomes_by_hand() {
 fn lookups_over_any_table() {
     let mut session = by_hand(&[4, 0, 2, 0, 1, 0, 0]);
     session.lend(Call::WriteTable { at: 0, numbers: vec![1, 2, u64::MAX, u64::MAX, 3, 4, 5, 6, 10, 5, 7, 8] });
-    assert_eq!(session.call(Call::Lookup(u64::MAX)).said, [0, 1, 1, 2, u64::MAX, u64::MAX, 3, 4]);
-    assert_eq!(session.call(Call::Lookup(14)).said, [0, 2, 5, 6, 10, 5, 7, 8]);
+    assert_eq!(session.call(by_ticks(u64::MAX)).said, [0, 1, 1, 2, u64::MAX, u64::MAX, 3, 4, 0]);
+    assert_eq!(session.call(by_ticks(14)).said, [0, 2, 5, 6, 10, 5, 7, 8, 0]);
     assert_eq!((session.lookup(15), session.lookup(9)), ((23, 0), (23, 0)));
     session.lend(Call::WriteTable { at: 2, numbers: vec![10, 0] });
     assert_eq!((session.lookup(10), session.lookup(15), session.lookup(9)), ((0, 2), (24, 0), (23, 0)));
@@ -126,7 +126,7 @@ fn wrong_answers_are_found() {
     let right = filled(&session.peer.says(&call).expect("known"));
     let is_right = |answer: &Answer| session.peer.clone().judge(&call, Some(answer)).is_ok();
     assert!(is_right(&right));
-    assert!(!is_right(&Answer { said: [0, 141, 0, 0, 0, 0, 0, 0], ..right.clone() }));
+    assert!(!is_right(&Answer { said: [0, 141, 0, 0, 0, 0, 0, 0, 0], ..right.clone() }));
     assert!(!is_right(&Answer { work: vec![Run { at: 0, now: vec![1] }], ..right.clone() }));
     assert!(!is_right(&Answer { table: Vec::new(), ..right.clone() }));
     for place in [0, 1, 2, 3, 4, 5, 6, 11, 27, 30, 31, 36, 37, 38, 39, 56] {
@@ -147,12 +147,12 @@ fn reading_states_by_hand() {
     assert_eq!((session.clone().finish(), session.clone().lookup(0), session.clone().feed(&[])), ((20, 60), (22, 0), (0, 60)));
     let mut after = made(&in_entries);
     (after[1], after[13], after[21]) = (64, 2, 9);
-    let right = Answer { said: [0, 64, 0, 0, 0, 0, 0, 0], state: after, work: vec![Run { at: 15, now: vec![9] }], table: Vec::new() };
+    let right = Answer { said: [0, 64, 0, 0, 0, 0, 0, 0, 0], state: after, work: vec![Run { at: 15, now: vec![9] }], table: Vec::new() };
     let is_right = |answer: &Answer| session.peer.clone().judge(&call, Some(answer)).is_ok();
     assert!(is_right(&right));
-    let refusal = Answer { said: [11, 20, 0, 0, 0, 0, 0, 0], state: made(&[3, 64, 1, 11, 20]), ..right.clone() };
+    let refusal = Answer { said: [11, 20, 0, 0, 0, 0, 0, 0, 0], state: made(&[3, 64, 1, 11, 20]), ..right.clone() };
     assert!(is_right(&refusal));
-    assert!(!is_right(&Answer { said: [20, 20, 0, 0, 0, 0, 0, 0], state: made(&[3, 64, 1, 20, 20]), ..right.clone() }));
+    assert!(!is_right(&Answer { said: [20, 20, 0, 0, 0, 0, 0, 0, 0], state: made(&[3, 64, 1, 20, 20]), ..right.clone() }));
     assert!(!is_right(&Answer { state: made(&[3, 64, 0, 11, 20]), ..refusal.clone() }));
     assert!(!is_right(&Answer { state: made(&[3, 65, 1, 11, 20]), ..refusal.clone() }));
     assert!(!is_right(&Answer { work: vec![Run { at: 15, now: vec![8] }], ..right.clone() }));
@@ -177,7 +177,7 @@ fn leaves_by_hand() {
     let (call, record) = (Call::Feed(vec![5]), vec![100, 100, 0, 9, 0, 5]);
     let mut after = made(&[1, 200, 2, 9, 5, 3, 1, 1, 0, 9, 1, 1, 2, 300, 9]);
     let right = Answer {
-        said: [0, 200, 0, 0, 0, 0, 0, 0],
+        said: [0, 200, 0, 0, 0, 0, 0, 0, 0],
         state: after.clone(),
         work: Vec::new(),
         table: vec![Run { at: 6, now: record.clone() }],
@@ -188,7 +188,7 @@ fn leaves_by_hand() {
     assert!(!is_right(&Answer { work: vec![Run { at: WORK, now: vec![5] }], ..right.clone() }));
     // No byte read, more leaves than the room has, another top index, an outcome that no feed has.
     let refused = |count: u64| Answer {
-        said: [15, 100, 0, 0, 0, 0, 0, 0],
+        said: [15, 100, 0, 0, 0, 0, 0, 0, 0],
         state: made(&[3, count, 1, 15, 100]),
         work: Vec::new(),
         table: Vec::new(),

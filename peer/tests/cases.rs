@@ -37,7 +37,7 @@ fn lookups_in_s() {
     session.call(Call::Whole { brand: MSDH, segment: s() });
     let found = [4999, 5000, 6999, 7000, 9999, 10000].map(|time| session.lookup(time));
     assert_eq!(found, [(23, 0), (0, 1), (0, 1), (0, 2), (0, 2), (24, 0)]);
-    assert_eq!(session.call(Call::Lookup(7000)).said, [0, 2, 136, 60, 7000, 3000, SAP, 2100]);
+    assert_eq!(session.call(by_ticks(7000)).said, [0, 2, 136, 60, 7000, 3000, SAP, 2100, 0]);
 }
 
 #[test]

@@ -5,6 +5,7 @@ mod common;
 use common::*;
 use peer::calls::{Call, Run};
 use peer::ranges::is_state;
+use peer::time::Request;
 
 /// What a reading leaves: the answers of the last feed and of finish, the state, the work area and the table.
 type Left = ((u64, u64), (u64, u64), Vec<u64>, Vec<u8>, Vec<u64>);
@@ -149,8 +150,8 @@ fn altered_entries_that_stand() {
     session.lend(Call::WriteWork { at: 16, bytes: vec![0, 0, 0x13, 0x87] });
     assert_eq!(session.feed(&s()[76..]), (0, 196));
     assert_eq!(session.finish(), (0, 2));
-    assert_eq!(session.call(Call::Lookup(5000)).said, [0, 1, 76, 60, 5000, 1, 0x0506_0708, 100]);
-    assert_eq!(session.call(Call::Lookup(5001)).said, [0, 2, 136, 60, 5001, 4999, SAP, 2100]);
+    assert_eq!(session.call(by_ticks(5000)).said, [0, 1, 76, 60, 5000, 1, 0x0506_0708, 100, 0]);
+    assert_eq!(session.call(by_ticks(5001)).said, [0, 2, 136, 60, 5001, 4999, SAP, 2100, 0]);
 }
 
 #[test]
@@ -300,10 +301,11 @@ fn any_commands() {
     let mut session = Session::new(3);
     let mut state = vec![0; 57];
     for _ in 0..20_000 {
-        let call = match random.below(8) {
+        let call = match random.below(9) {
             0 => Call::Start { brand: MSDH },
             1 => Call::Finish,
-            2 => Call::Lookup(random.below(9000) as u64),
+            2 => by_ticks(random.below(9000) as u64),
+            4 => Call::Lookup(Request::Seconds((random.below(9000) as f64 / 500.0 - 1.0).to_bits())),
             3 => Call::Whole { brand: MSDH, segment: t(5000)[..random.below(241)].to_vec() },
             _ => {
                 let from = random.below(240);

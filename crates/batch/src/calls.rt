@@ -1,11 +1,15 @@
-// The calls, on a state that is numbers. Each answers eight numbers: the number of the refusal or 0, its place or what is answered, and
-// the record that a lookup found.
+// The calls, on a state that is numbers. Each answers nine numbers: the number of the refusal or 0, its place or what is answered, the
+// record that a lookup found, and a mark's page.
 use covering::LookupAnswer;
+use doubles::double_of;
 use feed::feed;
 use feed::finish;
 use feed::start;
 use lookup::lookup;
 use machine::Refusal;
+use marks::Mark;
+use marks::resolve;
+use moment::Request;
 use pack::Packed;
 use pack::STATE_NUMBERS;
 use pack::Unpacked;
@@ -22,19 +26,19 @@ use whole::whole;
 pub const WORK_BYTES: usize = 49152;
 
 // A refusal that is given at the call.
-fn refused_with(number: u64) -> [u64; 8] {
-    [number, 0, 0, 0, 0, 0, 0, 0]
+fn refused_with(number: u64) -> [u64; 9] {
+    [number, 0, 0, 0, 0, 0, 0, 0, 0]
 }
 
-fn refused(x: Refusal) -> [u64; 8] {
-    [x.number, x.place, 0, 0, 0, 0, 0, 0]
+fn refused(x: Refusal) -> [u64; 9] {
+    [x.number, x.place, 0, 0, 0, 0, 0, 0, 0]
 }
 
-fn answered(value: u64) -> [u64; 8] {
-    [0, value, 0, 0, 0, 0, 0, 0]
+fn answered(value: u64) -> [u64; 9] {
+    [0, value, 0, 0, 0, 0, 0, 0, 0]
 }
 
-fn found(leaf: u64, r: Record) -> [u64; 8] {
+fn found(leaf: u64, r: Record) -> [u64; 9] {
     let numbers = numbers_of(r);
     [
         0,
@@ -45,11 +49,12 @@ fn found(leaf: u64, r: Record) -> [u64; 8] {
         numbers[3],
         numbers[4],
         numbers[5],
+        0,
     ]
 }
 
 // The state that a call leaves, written in the place of the one lent; what is said then is what the call said.
-fn left(s: State, state: &mut [u64], said: [u64; 8]) -> [u64; 8] {
+fn left(s: State, state: &mut [u64], said: [u64; 9]) -> [u64; 9] {
     match pack(s, state) {
         Packed::Done => said,
         Packed::Refused(x) => refused(x),
@@ -66,18 +71,18 @@ fn brand_of(n: u64) -> [u8; 4] {
     ]
 }
 
-fn start_call(brand: u64, state: &mut [u64]) -> [u64; 8] {
+fn start_call(brand: u64, state: &mut [u64]) -> [u64; 9] {
     left(start(brand_of(brand)), state, answered(0))
 }
 
-fn fed(answer: FeedAnswer) -> [u64; 8] {
+fn fed(answer: FeedAnswer) -> [u64; 9] {
     match answer {
         FeedAnswer::Read(count) => answered(count),
         FeedAnswer::Refused(x) => refused(x),
     }
 }
 
-fn finished(answer: FinishAnswer) -> [u64; 8] {
+fn finished(answer: FinishAnswer) -> [u64; 9] {
     match answer {
         FinishAnswer::Listed(leaves) => answered(leaves),
         FinishAnswer::Refused(x) => refused(x),
@@ -85,14 +90,14 @@ fn finished(answer: FinishAnswer) -> [u64; 8] {
 }
 
 // What is no state is answered as feed answers one from outside the ranges: it checks 1 before it looks at the state.
-fn nothing_to_feed(work: usize) -> [u64; 8] {
+fn nothing_to_feed(work: usize) -> [u64; 9] {
     if work < WORK_BYTES {
         return refused_with(1);
     }
     refused_with(2)
 }
 
-fn feed_call(part: &[u8], state: &mut [u64], work: &mut [u8], table: &mut [u64]) -> [u64; 8] {
+fn feed_call(part: &[u8], state: &mut [u64], work: &mut [u8], table: &mut [u64]) -> [u64; 9] {
     let Unpacked::Found(s) = unpack(state) else {
         return nothing_to_feed(work.len());
     };
@@ -103,7 +108,7 @@ fn feed_call(part: &[u8], state: &mut [u64], work: &mut [u8], table: &mut [u64])
     left(next, state, said)
 }
 
-fn finish_call(state: &mut [u64]) -> [u64; 8] {
+fn finish_call(state: &mut [u64]) -> [u64; 9] {
     let Unpacked::Found(s) = unpack(state) else {
         return refused_with(2);
     };
@@ -121,7 +126,7 @@ fn whole_call(
     state: &mut [u64],
     work: &mut [u8],
     table: &mut [u64],
-) -> [u64; 8] {
+) -> [u64; 9] {
     if state.len() != STATE_NUMBERS {
         return refused_with(2);
     }
@@ -132,13 +137,41 @@ fn whole_call(
     left(next, state, said)
 }
 
-fn lookup_call(time: u64, state: &[u64], table: &[u64]) -> [u64; 8] {
+fn looked_up(answer: LookupAnswer) -> [u64; 9] {
+    match answer {
+        LookupAnswer::Found(leaf, r) => found(leaf, r),
+        LookupAnswer::Refused(x) => refused(x),
+    }
+}
+
+fn lookup_call(request: Request, state: &[u64], table: &[u64]) -> [u64; 9] {
     let Unpacked::Found(s) = unpack(state) else {
         return refused_with(2);
     };
-    match lookup(s, table, time) {
-        LookupAnswer::Found(leaf, r) => found(leaf, r),
-        LookupAnswer::Refused(x) => refused(x),
+    looked_up(lookup(s, table, request))
+}
+
+// An answer with the page that comes with it.
+fn on_page(said: [u64; 9], page: u32) -> [u64; 9] {
+    let mut all = said;
+    all[8] = page as u64;
+    all
+}
+
+// What is no state has no mark resolved: its page is answered as it was asked.
+fn mark_call(mark: Mark, state: &[u64], table: &[u64]) -> [u64; 9] {
+    let Unpacked::Found(s) = unpack(state) else {
+        return on_page(refused_with(2), mark.page);
+    };
+    let resolved = resolve(s, table, mark);
+    let answer = resolved.answer;
+    on_page(looked_up(answer), resolved.page)
+}
+
+fn mark_of(seconds: u64, page: u64) -> Mark {
+    Mark {
+        page: (page % 4294967296) as u32,
+        seconds: double_of(seconds),
     }
 }
 
@@ -146,16 +179,19 @@ fn lookup_call(time: u64, state: &[u64], table: &[u64]) -> [u64; 8] {
 pub fn call(
     kind: u64,
     a: u64,
+    b: u64,
     part: &[u8],
     state: &mut [u64],
     work: &mut [u8],
     table: &mut [u64],
-) -> [u64; 8] {
+) -> [u64; 9] {
     match kind {
         1 => start_call(a, state),
         2 => feed_call(part, state, work, table),
         3 => finish_call(state),
         4 => whole_call(a, part, state, work, table),
-        _ => lookup_call(a, state, table),
+        5 => lookup_call(Request::Ticks(a), state, table),
+        6 => lookup_call(Request::Seconds(double_of(a)), state, table),
+        _ => mark_call(mark_of(a, b), state, table),
     }
 }

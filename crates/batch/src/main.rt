@@ -65,7 +65,7 @@ fn closed(lent: Lent) -> Lent {
 
 // What is written of a call: the answer, the state, and what is not as it was.
 fn put_answer(
-    said: [u64; 8],
+    said: [u64; 9],
     lent: Lent,
     state: &mut [u64],
     work: &mut [u8],
@@ -89,10 +89,11 @@ fn serve_call(
     state: &mut [u64],
     work: &mut [u8],
     table: &mut [u64],
-) -> [u64; 8] {
+) -> [u64; 9] {
     call(
         c.kind,
         c.a,
+        c.b,
         part,
         first_numbers(state, lent.state),
         first_bytes(work, lent.work),
@@ -104,7 +105,7 @@ fn serve_call(
 fn bytes_behind(c: Command) -> u64 {
     let kind = c.kind;
     match kind {
-        1 | 3 | 5 | 12 | 13 => 0,
+        1 | 3 | 5 | 6 | 7 | 12 | 13 => 0,
         2 => c.a,
         4 | 14 => c.b,
         11 => bytes_of_numbers(c.a, MOST_STATE),
@@ -229,7 +230,7 @@ fn serve(
         return closed(lent);
     }
     let given = first_of(part, n);
-    if c.kind <= 5 {
+    if c.kind <= 7 {
         let said = serve_call(c, lent, given, state, work, table);
         put_answer(said, lent, state, work, table, out);
         return lent;

@@ -2,6 +2,8 @@
 // f from,to: feed with these bytes; f from,to,k: k times; the last answer is printed
 // e: finish; the listing is printed
 // l t: lookup of the time t; the answer is printed
+// d bits: lookup of the seconds that are a double of these bits
+// m page,bits: a mark resolved; its page is printed before the answer
 // p: the bytes of the work area and the numbers of the leaf table that are not as they were lent are printed
 // a n: from here on, n bytes of work area are lent
 // t n: from here on, n numbers of leaf table are lent
@@ -23,13 +25,19 @@ use cases_data::words::lent_after;
 use cases_data::words::times;
 use cases_states::state_of;
 use cases_trial::lent::change_lent;
+use cases_trial::prints::print;
 use cases_trial::prints::print_end;
 use cases_trial::prints::print_fed;
 use cases_trial::prints::print_found;
+use cases_trial::prints::print_number;
+use doubles::double_of;
 use feed::feed;
 use feed::finish;
 use feed::start;
 use lookup::lookup;
+use marks::Mark;
+use marks::resolve;
+use moment::Request;
 use state::FeedAnswer;
 use state::State;
 
@@ -56,6 +64,30 @@ fn run_finish(s: State, table: &[u64]) -> State {
     finished.state
 }
 
+// The time that a word asks for.
+fn request_of(word: &[u8]) -> Request {
+    if letter(word) == b'l' {
+        return Request::Ticks(nth(word, 0));
+    }
+    Request::Seconds(double_of(nth(word, 0)))
+}
+
+fn mark_of(word: &[u8]) -> Mark {
+    Mark {
+        page: (nth(word, 0) % 4294967296) as u32,
+        seconds: double_of(nth(word, 1)),
+    }
+}
+
+fn run_mark(mark: Mark, s: State, table: &[u64]) -> State {
+    let resolved = resolve(s, table, mark);
+    print(b" page ");
+    print_number(resolved.page as u64);
+    let answer = resolved.answer;
+    print_found(answer);
+    s
+}
+
 fn run_word(word: &[u8], bytes: &[u8], s: State, work: &mut [u8], table: &mut [u64]) -> State {
     let c = letter(word);
     if c == b'f' {
@@ -65,9 +97,12 @@ fn run_word(word: &[u8], bytes: &[u8], s: State, work: &mut [u8], table: &mut [u
     if c == b'e' {
         return run_finish(s, table);
     }
-    if c == b'l' {
-        print_found(lookup(s, table, nth(word, 0)));
+    if c == b'l' || c == b'd' {
+        print_found(lookup(s, table, request_of(word)));
         return s;
+    }
+    if c == b'm' {
+        return run_mark(mark_of(word), s, table);
     }
     change_lent(word, work, table);
     state_of(c, word, s)

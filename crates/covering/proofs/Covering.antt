@@ -8,18 +8,19 @@ use mathlib.Core.Bool.{Bool, true, false}
 use native.Mathlib.Omega.{arith}
 use Rattle.basics.specs.Choose.{pick}
 use Rattle.basics.proofs.Picks.{lt-or-ge, pick-yes, pick-no}
+use Rattle.moment.specs.Moments.{Moment}
 use Rattle.covering.specs.Lookup.{recordCovers, coveringFrom}
 use Rattle.table.specs.Table.{recordAt}
 
 -- record j of k records from the i-th on covers t, and no lower one of them does
-pub record Lowest (k i : ℕ) (table : List ℕ) (t j : ℕ) : Type 0 where
+pub record Lowest (k i : ℕ) (table : List ℕ) (t : Moment) (j : ℕ) : Type 0 where
   pub from : i ≤ j
   pub below : j < i + k
   pub covering : recordCovers (recordAt table j) t ≡ true
   pub lower : (m : ℕ) → i ≤ m → m < j → recordCovers (recordAt table m) t ≡ false
 
 -- none of k records from the i-th on covers t
-abbrev pub NoneCovers : ℕ → ℕ → List ℕ → ℕ → Type 0
+abbrev pub NoneCovers : ℕ → ℕ → List ℕ → Moment → Type 0
 NoneCovers k i table t = (m : ℕ) → i ≤ m → m < i + k → recordCovers (recordAt table m) t ≡ false
 
 -- of a number that is at least another, it is that one or it is beyond it
@@ -39,7 +40,7 @@ from-here K i m h here on = at (here-or-on i m h)
     at (inr beyond) = on beyond
 
 -- The number found is that of the lowest-numbered record that covers the time.
-pub covering-lowest : (k i : ℕ) (table : List ℕ) (t j : ℕ) → coveringFrom k i table t ≡ some j → Lowest k i table t j
+pub covering-lowest : (k i : ℕ) (table : List ℕ) (t : Moment) (j : ℕ) → coveringFrom k i table t ≡ some j → Lowest k i table t j
 unfolding coveringFrom pick
 covering-lowest zero i table t j e = absurd (Option·none-ne-some j e)
 covering-lowest (suc k) i table t j e = at (recordCovers (recordAt table i) t) refl e (covering-lowest k (suc i) table t j)
@@ -61,7 +62,7 @@ covering-lowest (suc k) i table t j e = at (recordCovers (recordAt table i) t) r
         }
 
 -- The lowest-numbered record that covers the time is found.
-pub lowest-covering : (k i : ℕ) (table : List ℕ) (t j : ℕ) → Lowest k i table t j → coveringFrom k i table t ≡ some j
+pub lowest-covering : (k i : ℕ) (table : List ℕ) (t : Moment) (j : ℕ) → Lowest k i table t j → coveringFrom k i table t ≡ some j
 unfolding coveringFrom pick
 lowest-covering zero i table t j l = let low = l .from in let high = l .below in absurd (omega arith)
 lowest-covering (suc k) i table t j l = at (here-or-on i j (l .from)) (lowest-covering k (suc i) table t j)
@@ -75,7 +76,7 @@ lowest-covering (suc k) i table t j l = at (here-or-on i j (l .from)) (lowest-co
         ∙ later (record { from = on; below = omega arith; covering = l .covering; lower = λ m from to. l .lower m (omega arith) to })
 
 -- Where none is found, none covers the time.
-pub none-covers : (k i : ℕ) (table : List ℕ) (t : ℕ) → coveringFrom k i table t ≡ none → NoneCovers k i table t
+pub none-covers : (k i : ℕ) (table : List ℕ) (t : Moment) → coveringFrom k i table t ≡ none → NoneCovers k i table t
 unfolding coveringFrom pick
 none-covers zero i table t e m from to = absurd (omega arith)
 none-covers (suc k) i table t e m from to = at (recordCovers (recordAt table i) t) refl e (λ h. none-covers k (suc i) table t h m)
@@ -86,16 +87,16 @@ none-covers (suc k) i table t e m from to = at (recordCovers (recordAt table i) 
     at false here h later = from-here (λ n. recordCovers (recordAt table n) t ≡ false) i m from here (λ on. later h on (omega arith))
 
 -- Where none covers the time, none is found.
-pub covers-none : (k i : ℕ) (table : List ℕ) (t : ℕ) → NoneCovers k i table t → coveringFrom k i table t ≡ none
+pub covers-none : (k i : ℕ) (table : List ℕ) (t : Moment) → NoneCovers k i table t → coveringFrom k i table t ≡ none
 unfolding coveringFrom
 covers-none zero i table t h = refl
 covers-none (suc k) i table t h =
     pick-no (recordCovers (recordAt table i) t) _ _ (h i (omega arith) (omega arith)) ∙ covers-none k (suc i) table t (λ m from to. h m (omega arith) (omega arith))
 
 -- Both together: a number is found exactly where it is the lowest that covers, and none exactly where none covers.
-pub covering-exact : (k i : ℕ) (table : List ℕ) (t : ℕ) → ((j : ℕ) → coveringFrom k i table t ≡ some j ↔ Lowest k i table t j) × (coveringFrom k i table t ≡ none ↔ NoneCovers k i table t)
+pub covering-exact : (k i : ℕ) (table : List ℕ) (t : Moment) → ((j : ℕ) → coveringFrom k i table t ≡ some j ↔ Lowest k i table t j) × (coveringFrom k i table t ≡ none ↔ NoneCovers k i table t)
 covering-exact k i table t = (λ j. (covering-lowest k i table t j, lowest-covering k i table t j), (none-covers k i table t, covers-none k i table t))
 
 -- Two lowest-numbered records that cover are the same.
-pub lowest-same : (k i : ℕ) (table : List ℕ) (t j j' : ℕ) → Lowest k i table t j → Lowest k i table t j' → j ≡ j'
+pub lowest-same : (k i : ℕ) (table : List ℕ) (t : Moment) (j j' : ℕ) → Lowest k i table t j → Lowest k i table t j' → j ≡ j'
 lowest-same k i table t j j' l l' = Option·some-injective _ _ (sym (lowest-covering k i table t j l) ∙ lowest-covering k i table t j' l')

@@ -5,32 +5,27 @@ use mathlib.Core.Path.{_≡_, refl, sym, ap, _∙_}
 use mathlib.Core.List.{List, [], _∷_, _++_}
 use mathlib.Core.Logic.{_↔_}
 use mathlib.Core.Option.{Option, some, none, Option·some-injective, Option·none-ne-some}
-use mathlib.Core.Bool.{Bool, true, false, _&&_, true≢false}
+use mathlib.Core.Bool.{Bool, true, false, true≢false}
 use native.Mathlib.Omega.{arith}
-use lib.Dec.{ltb, leb}
 use lib.ListN.{length, getD}
 use Rattle.basics.specs.Choose.{pick}
 use Rattle.segment.specs.Tree.{Leaf}
-use Rattle.segment.specs.Tree as tree
 use Rattle.segment.specs.Parts.{At}
 use Rattle.machine.specs.Faults.{refusal}
 use Rattle.machine.specs.declared.Refusal.{Refusal}
+use Rattle.moment.specs.Moments.{Moment, before}
 use Rattle.table.specs.declared.Record.{Record}
 use Rattle.table.proofs.ReadBack.{by-numbers}
 use Rattle.covering.specs.declared.LookupAnswer.the-variants as answer
 use Rattle.covering.specs.Lookup.{recordCovers, coveringFrom, outside, found, lookIn}
 use Rattle.table.specs.Table.{recordAt, numbersOf, recordNumbers}
-use Rattle.covering.specs.Records.{recordOf, recordsOf, NoLeafCovers, outsideNumber}
+use Rattle.covering.specs.Records.{recordOf, recordsOf, leafCovers, NoLeafCovers, outsideNumber}
 use Rattle.covering.proofs.Covering.{Lowest, covering-lowest, lowest-covering, none-covers, covers-none}
 
 -- a leaf and its record cover the same times
-pub covers-alike : (l : Leaf) (t : ℕ) → recordCovers (recordOf l) t ≡ tree.covers t l
-unfolding recordCovers tree.covers pick
-covers-alike l t = at (leb (l .start) t)
-  where
-    at : (c : Bool) → (c && ltb t (l .start + l .duration)) ≡ pick c (ltb t (l .start + l .duration)) false
-    at true = refl
-    at false = refl
+covers-alike : (l : Leaf) (t : Moment) → recordCovers (recordOf l) t ≡ leafCovers t l
+unfolding recordCovers leafCovers
+covers-alike l t = refl
 
 skip-numbers : (l : Leaf) (more : List ℕ) (i k : ℕ) → getD (numbersOf (recordOf l) ++ more) (recordNumbers * suc i + k) 0 ≡ getD more (recordNumbers * i + k) 0
 skip-numbers l more i k =
@@ -62,11 +57,11 @@ below-at (b ∷ bs) zero h = (b, refl)
 below-at (b ∷ bs) (suc i) h = below-at bs i (omega arith)
 
 -- whether the i-th record covers is whether the i-th leaf does
-covers-at : (ls : List Leaf) (rest : List ℕ) (t i : ℕ) (l : Leaf) → At ls i l → recordCovers (recordAt (recordsOf ls ++ rest) i) t ≡ tree.covers t l
+covers-at : (ls : List Leaf) (rest : List ℕ) (t : Moment) (i : ℕ) (l : Leaf) → At ls i l → recordCovers (recordAt (recordsOf ls ++ rest) i) t ≡ leafCovers t l
 covers-at ls rest t i l h = ap (λ (r : Record). recordCovers r t) (record-of-leaf ls rest i l h) ∙ covers-alike l t
 
 -- The i-th leaf covers the time and no earlier one does: it is found, as number i + 1, with its record.
-pub found-exact : (ls : List Leaf) (rest : List ℕ) (t i : ℕ) (l : Leaf) → At ls i l → tree.covers t l ≡ true → ((j : ℕ) (m : Leaf) → j < i → At ls j m → tree.covers t m ≡ false) →
+pub found-exact : (ls : List Leaf) (rest : List ℕ) (t : Moment) (i : ℕ) (l : Leaf) → At ls i l → leafCovers t l ≡ true → ((j : ℕ) (m : Leaf) → j < i → At ls j m → leafCovers t m ≡ false) →
     lookIn (length ls) (recordsOf ls ++ rest) t ≡ answer.Found (suc i) (recordOf l)
 unfolding found
 found-exact ls rest t i l there here earlier =
@@ -81,32 +76,32 @@ found-exact ls rest t i l there here earlier =
     ap (λ (o : Option ℕ). found (length ls) (recordsOf ls ++ rest) t o) (lowest-covering (length ls) 0 (recordsOf ls ++ rest) t i lowest)
     ∙ ap (λ (r : Record). answer.Found (suc i) r) (record-of-leaf ls rest i l there)
 
-outside-number : (ls : List Leaf) (rest : List ℕ) (t : ℕ) → outside (length ls) (recordsOf ls ++ rest) t ≡ answer.Refused (refusal (outsideNumber ls t) 0)
+outside-number : (ls : List Leaf) (rest : List ℕ) (t : Moment) → outside (length ls) (recordsOf ls ++ rest) t ≡ answer.Refused (refusal (outsideNumber ls t) 0)
 unfolding outside outsideNumber recordsOf pick recordAt
 outside-number [] rest t = refl
-outside-number (l ∷ ls) rest t = at (ltb t (l .start))
+outside-number (l ∷ ls) rest t = at (before t (l .start))
   where
     at : (c : Bool) → pick c (answer.Refused (refusal 23 0)) (answer.Refused (refusal 24 0)) ≡ answer.Refused (refusal (pick c 23 24) 0)
     at true = refl
     at false = refl
 
-none-found : (ls : List Leaf) (rest : List ℕ) (t : ℕ) → NoLeafCovers ls t → coveringFrom (length ls) 0 (recordsOf ls ++ rest) t ≡ none
+none-found : (ls : List Leaf) (rest : List ℕ) (t : Moment) → NoLeafCovers ls t → coveringFrom (length ls) 0 (recordsOf ls ++ rest) t ≡ none
 none-found ls rest t h =
     covers-none (length ls) 0 (recordsOf ls ++ rest) t (λ m from to. let (k, at) = below-at ls m (omega arith) in covers-at ls rest t m k at ∙ h m k at)
 
 -- No leaf covers the time: it is refused with 23 where there is a first leaf and the time is below its start, and else with 24.
-pub refused-exact : (ls : List Leaf) (rest : List ℕ) (t : ℕ) → NoLeafCovers ls t → lookIn (length ls) (recordsOf ls ++ rest) t ≡ answer.Refused (refusal (outsideNumber ls t) 0)
+pub refused-exact : (ls : List Leaf) (rest : List ℕ) (t : Moment) → NoLeafCovers ls t → lookIn (length ls) (recordsOf ls ++ rest) t ≡ answer.Refused (refusal (outsideNumber ls t) 0)
 unfolding found
 refused-exact ls rest t h = ap (λ (o : Option ℕ). found (length ls) (recordsOf ls ++ rest) t o) (none-found ls rest t h) ∙ outside-number ls rest t
 
 -- What is found is a leaf that covers the time, its number and its record, and no earlier leaf covers it.
-pub found-leaf : (ls : List Leaf) (rest : List ℕ) (t n : ℕ) (r : Record) → lookIn (length ls) (recordsOf ls ++ rest) t ≡ answer.Found n r →
-    (i : ℕ) × (l : Leaf) × At ls i l × (tree.covers t l ≡ true) × (n ≡ suc i) × (r ≡ recordOf l) × ((j : ℕ) (m : Leaf) → j < i → At ls j m → tree.covers t m ≡ false)
+pub found-leaf : (ls : List Leaf) (rest : List ℕ) (t : Moment) (n : ℕ) (r : Record) → lookIn (length ls) (recordsOf ls ++ rest) t ≡ answer.Found n r →
+    (i : ℕ) × (l : Leaf) × At ls i l × (leafCovers t l ≡ true) × (n ≡ suc i) × (r ≡ recordOf l) × ((j : ℕ) (m : Leaf) → j < i → At ls j m → leafCovers t m ≡ false)
 unfolding found
 found-leaf ls rest t n r = at (coveringFrom (length ls) 0 (recordsOf ls ++ rest) t) refl
   where
     at : (o : Option ℕ) → coveringFrom (length ls) 0 (recordsOf ls ++ rest) t ≡ o → found (length ls) (recordsOf ls ++ rest) t o ≡ answer.Found n r →
-        (i : ℕ) × (l : Leaf) × At ls i l × (tree.covers t l ≡ true) × (n ≡ suc i) × (r ≡ recordOf l) × ((j : ℕ) (m : Leaf) → j < i → At ls j m → tree.covers t m ≡ false)
+        (i : ℕ) × (l : Leaf) × At ls i l × (leafCovers t l ≡ true) × (n ≡ suc i) × (r ≡ recordOf l) × ((j : ℕ) (m : Leaf) → j < i → At ls j m → leafCovers t m ≡ false)
     at none e h = let z : _≡_ {A = ℕ} 0 1 = cc (outside-number ls rest t) in absurd (omega arith)
     at (some i) e h =
         let lowest = covering-lowest (length ls) 0 (recordsOf ls ++ rest) t i e in
@@ -124,7 +119,7 @@ found-leaf ls rest t n r = at (coveringFrom (length ls) 0 (recordsOf ls ++ rest)
         )
 
 -- A time that some leaf covers is found.
-pub covered-found : (ls : List Leaf) (rest : List ℕ) (t i : ℕ) (l : Leaf) → At ls i l → tree.covers t l ≡ true →
+pub covered-found : (ls : List Leaf) (rest : List ℕ) (t : Moment) (i : ℕ) (l : Leaf) → At ls i l → leafCovers t l ≡ true →
     (n : ℕ) × (r : Record) × (lookIn (length ls) (recordsOf ls ++ rest) t ≡ answer.Found n r)
 unfolding found
 covered-found ls rest t i l there here = at (coveringFrom (length ls) 0 (recordsOf ls ++ rest) t) refl
@@ -136,22 +131,22 @@ covered-found ls rest t i l there here = at (coveringFrom (length ls) 0 (records
     at (some j) e = (suc j, recordAt (recordsOf ls ++ rest) j, refl)
 
 -- A time is found exactly when some leaf covers it.
-pub lookup-covers : (ls : List Leaf) (rest : List ℕ) (t : ℕ) →
-    ((n : ℕ) × (r : Record) × (lookIn (length ls) (recordsOf ls ++ rest) t ≡ answer.Found n r)) ↔ ((i : ℕ) × (l : Leaf) × At ls i l × (tree.covers t l ≡ true))
+pub lookup-covers : (ls : List Leaf) (rest : List ℕ) (t : Moment) →
+    ((n : ℕ) × (r : Record) × (lookIn (length ls) (recordsOf ls ++ rest) t ≡ answer.Found n r)) ↔ ((i : ℕ) × (l : Leaf) × At ls i l × (leafCovers t l ≡ true))
 lookup-covers ls rest t = (
   λ (f : (n : ℕ) × (r : Record) × (lookIn (length ls) (recordsOf ls ++ rest) t ≡ answer.Found n r)).
       let (i, l, there, here, number, held, earlier) = found-leaf ls rest t (f .0) (f .1) (f .2) in (i, l, there, here),
-  λ (c : (i : ℕ) × (l : Leaf) × At ls i l × (tree.covers t l ≡ true)). covered-found ls rest t (c .0) (c .1) (c .2) (c .3),
+  λ (c : (i : ℕ) × (l : Leaf) × At ls i l × (leafCovers t l ≡ true)). covered-found ls rest t (c .0) (c .1) (c .2) (c .3),
 )
 
 -- A time is refused exactly when no leaf covers it.
-pub lookup-refuses : (ls : List Leaf) (rest : List ℕ) (t : ℕ) → ((x : Refusal) × (lookIn (length ls) (recordsOf ls ++ rest) t ≡ answer.Refused x)) ↔ NoLeafCovers ls t
+pub lookup-refuses : (ls : List Leaf) (rest : List ℕ) (t : Moment) → ((x : Refusal) × (lookIn (length ls) (recordsOf ls ++ rest) t ≡ answer.Refused x)) ↔ NoLeafCovers ls t
 lookup-refuses ls rest t = (
-  λ (f : (x : Refusal) × (lookIn (length ls) (recordsOf ls ++ rest) t ≡ answer.Refused x)) i l there. at (f .0) (f .1) i l there (tree.covers t l) refl,
+  λ (f : (x : Refusal) × (lookIn (length ls) (recordsOf ls ++ rest) t ≡ answer.Refused x)) i l there. at (f .0) (f .1) i l there (leafCovers t l) refl,
   λ h. (refusal (outsideNumber ls t) 0, refused-exact ls rest t h),
 )
   where
-    at : (x : Refusal) → lookIn (length ls) (recordsOf ls ++ rest) t ≡ answer.Refused x → (i : ℕ) (l : Leaf) → At ls i l → (c : Bool) → tree.covers t l ≡ c → c ≡ false
+    at : (x : Refusal) → lookIn (length ls) (recordsOf ls ++ rest) t ≡ answer.Refused x → (i : ℕ) (l : Leaf) → At ls i l → (c : Bool) → leafCovers t l ≡ c → c ≡ false
     at x e i l there false here = refl
     at x e i l there true here =
         let (n, r, f) = covered-found ls rest t i l there here in

@@ -1,14 +1,14 @@
 -- The leaves of a segment as they stand in the leaf table, and the number of a refusal where none of them covers a time.
-use Prim.Native.Nat.{ℕ}
+use Prim.Native.Nat.{ℕ, _+_}
 use mathlib.Core.Path.{_≡_}
 use mathlib.Core.List.{List, [], _∷_, _++_}
-use mathlib.Core.Bool.{false}
-use lib.Dec.{ltb}
+use mathlib.Core.Bool.{Bool, false, _&&_}
 use Rattle.basics.specs.Choose.{pick}
-use Rattle.segment.specs.Tree.{Leaf, covers}
+use Rattle.segment.specs.Tree.{Leaf}
 use Rattle.segment.specs.Parts.{At}
 use Rattle.table.specs.declared.Record.{Record}
 use Rattle.table.specs.Table.{numbersOf}
+use Rattle.moment.specs.Moments.{Moment, reaches, before}
 
 -- the record of a leaf
 abbrev pub recordOf : Leaf → Record
@@ -19,11 +19,15 @@ unfoldable pub recordsOf : List Leaf → List ℕ
 recordsOf [] = []
 recordsOf (l ∷ ls) = numbersOf (recordOf l) ++ recordsOf ls
 
+-- rule 7, of a time that need not be whole: start ≤ t < start + duration
+unfoldable pub leafCovers : Moment → Leaf → Bool
+leafCovers t l = reaches t (l .start) && before t (l .start + l .duration)
+
 -- none of the leaves covers t
-abbrev pub NoLeafCovers : List Leaf → ℕ → Type 0
-NoLeafCovers ls t = (i : ℕ) (l : Leaf) → At ls i l → covers t l ≡ false
+abbrev pub NoLeafCovers : List Leaf → Moment → Type 0
+NoLeafCovers ls t = (i : ℕ) (l : Leaf) → At ls i l → leafCovers t l ≡ false
 
 -- "if none does, 23 when there is a record 1 and t is below its start, else 24"
-unfoldable pub outsideNumber : List Leaf → ℕ → ℕ
+unfoldable pub outsideNumber : List Leaf → Moment → ℕ
 outsideNumber [] t = 24
-outsideNumber (l ∷ ls) t = pick (ltb t (l .start)) 23 24
+outsideNumber (l ∷ ls) t = pick (before t (l .start)) 23 24

@@ -4,7 +4,7 @@ use Prim.Native.Nat.{ℕ, zero, suc, _+_, _*_, _/_, _≤_, _<_}
 use mathlib.Core.Path.{_≡_, refl, ap, sym, _∙_}
 use mathlib.Core.Logic.{_↔_, _≢_, ⊎-elim}
 use mathlib.Core.List.{List, [], _∷_, _++_}
-use mathlib.Core.Option.{Option, some, none}
+use mathlib.Core.Option.{Option, some, none, Option·some-injective}
 use mathlib.Core.Bool.{Bool, true, false}
 use native.Mathlib.Omega.{arith}
 use lib.Dec.{eqb, ltb}
@@ -16,7 +16,7 @@ use Rattle.basics.proofs.Picks.{lt-or-ge, pick-no, pick-holds}
 use Rattle.basics.proofs.Options.{then-inv, pick-else}
 use Rattle.segment.specs.Constants.{limit}
 use Rattle.segment.specs.Boxes.{durations}
-use Rattle.segment.specs.Tree.{Leaf, Opened, covers, topIndex, segmentParts, segment}
+use Rattle.segment.specs.Tree.{Leaf, Opened, topIndex, segmentParts, segment}
 use Rattle.segment.specs.Parts.{At, One}
 use Rattle.machine.specs.Faults.{refusal}
 use Rattle.machine.specs.Run.{Res, okay, fail, cut}
@@ -36,8 +36,11 @@ use Rattle.state.proofs.RangeTests.{in-range}
 use Rattle.state.proofs.Ranges.{start-in-range, feed-in-range, finish-in-range}
 use Rattle.descent.specs.Whole.{outcome, readD, wholeD}
 use Rattle.covering.specs.declared.LookupAnswer.the-variants as answer
-use Rattle.covering.specs.Records.{recordOf, recordsOf, NoLeafCovers}
-use Rattle.covering.specs.Lookup.{lookIn, lookupOf}
+use Rattle.moment.specs.declared.Request.{Request}
+use Rattle.moment.specs.Moments.{Moment, momentOf, reaches, before}
+use Rattle.moment.proofs.Whole.{moment-under}
+use Rattle.covering.specs.Records.{recordOf, recordsOf, leafCovers, NoLeafCovers}
+use Rattle.covering.specs.Lookup.{lookIn, lookAt, lookupOf}
 use Rattle.covering.proofs.Listed.{lookup-refuses}
 use Rattle.covering.proofs.TheLeaf.{segment-found, segment-before, segment-past, records-length, lookup-listed}
 use Rattle.law_d.proofs.LawD.{law-d}
@@ -212,31 +215,49 @@ module _ (brand : ℕ) (bytes work table : List ℕ) (all : AllBytes bytes) (lon
   pub lent-back : (ls : List Leaf) → Accepts brand bytes table ls o → BeginsWith ls (o .table)
   lent-back ls a = (drop (recordNumbers * length ls) table, a .lists)
 
-  -- Times looked up with the state that an accepted reading leaves and any table that begins with the list.
-  module _ (ls : List Leaf) (e : segment brand bytes ≡ some ls) (fits : length ls ≤ room table) (lent : List ℕ) (begins : BeginsWith ls lent) (t : ℕ) where
+  -- Requests looked up with the state that an accepted reading leaves and any table that begins with the list.
+  module _ (ls : List Leaf) (e : segment brand bytes ≡ some ls) (fits : length ls ≤ room table) (lent : List ℕ) (begins : BeginsWith ls lent) (r : Request) where
     behind : List ℕ
     behind = begins .0
 
-    look : lookupOf (o .state) lent t ≡ lookIn (length ls) (recordsOf ls ++ behind) t
+    -- by the timescale that the tree's top index states
+    look : (top : Opened) → topIndex brand bytes ≡ some top → lookupOf (o .state) lent r ≡ lookAt (length ls) (recordsOf ls ++ behind) (momentOf r (top .index .scale))
     unfolding behind
-    look =
+    look top q =
         let a : Accepts brand bytes table ls o = accepts ls e fits in
         let says : Top = stated (a .top .index) in
+        let same : a .top ≡ top = Option·some-injective _ _ (sym (a .opened) ∙ q) in
         let inside : inRange (state.Accepted (length bytes) (length ls) says) ≡ true = in-range (state.Accepted (length bytes) (length ls) says) .1 (rw (a .states) at whole-in-range) in
-        ap (λ (l : List ℕ). lookupOf (o .state) l t) (begins .1) ∙ rw (a .states) (lookup-listed (length bytes) ls says (begins .0) t inside)
+        ap (λ (l : List ℕ). lookupOf (o .state) l r) (begins .1)
+        ∙ rw (a .states) (lookup-listed (length bytes) ls says (begins .0) r inside)
+        ∙ ap (λ (t : Opened). lookAt (length ls) (recordsOf ls ++ begins .0) (momentOf r (t .index .scale))) same
 
-    -- A time within the index's own time line gets the one leaf that covers it.
-    pub found : (top : Opened) → topIndex brand bytes ≡ some top → top .index .time ≤ t → t < top .index .time + durations (top .index .entries) →
-        (one : One (λ l. covers t l ≡ true) ls) × (lookupOf (o .state) lent t ≡ answer.Found (suc (one .place)) (recordOf (one .item)))
-    found top q from to = let (one, r) = segment-found brand bytes ls top e q behind t from to in (one, look ∙ r)
+    module _ (top : Opened) (q : topIndex brand bytes ≡ some top) where
+      -- What is no time is refused with 26.
+      pub no-time : momentOf r (top .index .scale) ≡ none → lookupOf (o .state) lent r ≡ answer.Refused (refusal 26 0)
+      unfolding lookAt
+      no-time n = look top q ∙ ap (λ (m : Option Moment). lookAt (length ls) (recordsOf ls ++ behind) m) n
 
-    -- A time is refused exactly when no leaf covers it.
-    pub refused-exactly : ((x : Refusal) × (lookupOf (o .state) lent t ≡ answer.Refused x)) ↔ NoLeafCovers ls t
-    refused-exactly = rw look (lookup-refuses ls behind t)
+      module _ (t : Moment) (asked : momentOf r (top .index .scale) ≡ some t) where
+        some' : 0 < t .under
+        some' = moment-under r (top .index .scale) t asked
 
-    -- Before the list it is 23, past it 24.
-    pub before : (top : Opened) → topIndex brand bytes ≡ some top → t < top .index .time → lookupOf (o .state) lent t ≡ answer.Refused (refusal 23 0)
-    before top q h = look ∙ segment-before brand bytes ls top e q behind t h
+        look-in : lookupOf (o .state) lent r ≡ lookIn (length ls) (recordsOf ls ++ behind) t
+        unfolding lookAt
+        look-in = look top q ∙ ap (λ (m : Option Moment). lookAt (length ls) (recordsOf ls ++ behind) m) asked
 
-    pub past : (top : Opened) → topIndex brand bytes ≡ some top → top .index .time + durations (top .index .entries) ≤ t → lookupOf (o .state) lent t ≡ answer.Refused (refusal 24 0)
-    past top q h = look ∙ segment-past brand bytes ls top e q behind t h
+        -- A time within the index's own time line gets the one leaf that covers it.
+        pub found : reaches t (top .index .time) ≡ true → before t (top .index .time + durations (top .index .entries)) ≡ true →
+            (one : One (λ l. leafCovers t l ≡ true) ls) × (lookupOf (o .state) lent r ≡ answer.Found (suc (one .place)) (recordOf (one .item)))
+        found from to = let (one, found) = segment-found brand bytes ls top e q behind t some' from to in (one, look-in ∙ found)
+
+        -- A time is refused exactly when no leaf covers it.
+        pub refused-exactly : ((x : Refusal) × (lookupOf (o .state) lent r ≡ answer.Refused x)) ↔ NoLeafCovers ls t
+        refused-exactly = rw look-in (lookup-refuses ls behind t)
+
+        -- Before the list it is 23, past it 24.
+        pub earlier : before t (top .index .time) ≡ true → lookupOf (o .state) lent r ≡ answer.Refused (refusal 23 0)
+        earlier h = look-in ∙ segment-before brand bytes ls top e q behind t some' h
+
+        pub past : reaches t (top .index .time + durations (top .index .entries)) ≡ true → lookupOf (o .state) lent r ≡ answer.Refused (refusal 24 0)
+        past h = look-in ∙ segment-past brand bytes ls top e q behind t some' h

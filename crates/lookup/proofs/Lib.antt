@@ -1,2 +1,4 @@
 pub mod Passing
+pub mod Turns
+pub mod Exactly
 pub mod OneOutcome

@@ -1,16 +1,23 @@
-// A time looked up in the leaf table of an accepted segment.
+// A time looked up in the leaf table of an accepted segment, in ticks or in seconds.
 ghost use mathlib.Core.Path.{_≡_};
-ghost use Prim.Native.Nat.{_+_, _*_, _≤_};
-ghost use lib.Dec.{ltb};
+ghost use Prim.Native.Nat.{_+_, _*_, _^_, _≤_, _<_};
 ghost use lib.ListN.{length};
 ghost use Rattle.basics.specs.Choose.{pick};
 ghost use Rattle.machine.specs.Faults.{refusal};
-ghost use Rattle.table.specs.Table.{recordNumbers, recordAt};
-ghost use Rattle.covering.specs.Lookup.{recordCovers, outside, lookIn, lookupState, lookupOf};
+ghost use Rattle.table.specs.Table.{mostRecords, recordNumbers, recordAt};
+ghost use Rattle.moment.specs.Moments.{tick, momentOf};
+ghost use Rattle.state.specs.declared.State.the-variants as state;
+ghost use Rattle.state.specs.Ranges.{inRange};
+ghost use Rattle.covering.specs.Lookup.{recordCovers, outside, lookIn, lookupOf};
 ghost use Rattle.covering.specs.declared.LookupAnswer.the-variants as answer;
+ghost use Rattle.lookup.specs.Spots.{Spots, lookAmong};
 use covering::LookupAnswer;
 use machine::Refusal;
+use moment::Request;
+use seconds::Ticks;
+use seconds::ticks_asked;
 use state::State;
+use state::Top;
 use table::DURATION;
 use table::NUMBERS;
 use table::START;
@@ -30,17 +37,23 @@ const PAST: u64 = 24;
 // Refused: the table is shorter than the list.
 const SHORT_TABLE: u64 = 25;
 
-// A lookup reads no byte of the segment: it refuses at place 0.
-fn refused(number: u64) -> LookupAnswer
-    ensures { λ r. ⌜ r ≡ answer.Refused (refusal number 0) ⌝ }
-{
-    LookupAnswer::Refused(Refusal { number, place: 0 })
+// Refused: the seconds are not a number, infinite, or below zero.
+const NO_TIME: u64 = 26;
+
+// The highest number of 64 bits.
+const HIGHEST: u64 = 18446744073709551615;
+
+// Where a lookup ends: at a record, by its index from 0, or at the number of a refusal. Spots fit in registers, an answer does not:
+// the ways through a lookup meet in a spot, and one place makes the answer of it.
+enum Spot {
+    At(usize),
+    Refused(u64),
 }
 
 // Whether record i covers t. The end is not computed, since it may not fit.
 fn covers_at(table: &[u64], i: usize, t: u64) -> bool
     requires { ⌜ recordNumbers * i + recordNumbers ≤ length (now table) ⌝ }
-    ensures { λ r. ⌜ r ≡ recordCovers (recordAt (now (table .entry)) i) t ⌝ }
+    ensures { λ r. ⌜ r ≡ recordCovers (recordAt (now (table .entry)) i) (tick t) ⌝ }
 {
     let start = table[NUMBERS * i + START];
     if t < start {
@@ -53,82 +66,120 @@ fn covers_at(table: &[u64], i: usize, t: u64) -> bool
     false
 }
 
-// No record covers t: before the first leaf, or past the list.
-fn outside_list(leaves: usize, table: &[u64], t: u64) -> LookupAnswer
+// Whether record i covers 2^64 + t: it starts before, and its end has to be farther beyond 2^64.
+fn covers_beyond(table: &[u64], i: usize, t: u64) -> bool
+    requires { ⌜ recordNumbers * i + recordNumbers ≤ length (now table) ⌝ }
+    ensures { λ r. ⌜ r ≡ recordCovers (recordAt (now (table .entry)) i) (tick (2 ^ 64 + t)) ⌝ }
+{
+    let room = HIGHEST - table[NUMBERS * i + START];
+    let duration = table[NUMBERS * i + DURATION];
+    if duration <= room {
+        return false;
+    }
+    t < duration - room - 1
+}
+
+// No record covers t: the number that refuses a time before the first leaf, or past the list.
+fn outside_list(leaves: usize, table: &[u64], t: u64) -> u64
     requires { ⌜ recordNumbers * leaves ≤ length (now table) ⌝ }
-    ensures { λ r. ⌜ r ≡ outside leaves (now (table .entry)) t ⌝ }
+    ensures { λ r. ⌜ answer.Refused (refusal r 0) ≡ outside leaves (now (table .entry)) (tick t) ⌝ }
 {
     if leaves == 0 {
-        return refused(PAST);
+        return PAST;
     }
     let start = table[START];
     if t < start {
-        return refused(BEFORE);
+        return BEFORE;
     }
-    refused(PAST)
+    PAST
 }
 
 // The lowest-numbered record that covers t: the first one met.
-fn look_in(leaves: usize, table: &[u64], t: u64) -> LookupAnswer
+fn look_in(leaves: usize, table: &[u64], t: u64) -> Spot
     requires { ⌜ recordNumbers * leaves ≤ length (now table) ⌝ }
-    ensures { λ r. ⌜ r ≡ lookIn leaves (now (table .entry)) t ⌝ }
+    ensures { λ r. ⌜ Spots (now (table .entry)) (lookIn leaves (now (table .entry)) (tick t)) r ⌝ }
 {
     let mut i: usize = 0;
     while i < leaves {
         if covers_at(table, i, t) {
-            return LookupAnswer::Found((i + 1) as u64, records::record_at(table, i));
+            return Spot::At(i);
         }
         i += 1;
     }
-    outside_list(leaves, table, t)
+    Spot::Refused(outside_list(leaves, table, t))
 }
 
-// The leaves are counted by a quotient, since the numbers of all records may not fit.
-fn look_among(leaves: u64, table: &[u64], t: u64) -> LookupAnswer
-    ensures { λ r. ⌜ r ≡ pick (ltb (length (now (table .entry))) (recordNumbers * leaves)) (answer.Refused (refusal 25 0)) (lookIn leaves (now (table .entry)) t) ⌝ }
+// The same of 2^64 + t, before which each leaf starts. Only a table that no reading left has a record that reaches so far.
+fn look_beyond(leaves: usize, table: &[u64], t: u64) -> Spot
+    requires { ⌜ recordNumbers * leaves ≤ length (now table) ⌝ }
+    ensures { λ r. ⌜ Spots (now (table .entry)) (lookIn leaves (now (table .entry)) (tick (2 ^ 64 + t))) r ⌝ }
 {
-    let held = table.len() / NUMBERS;
-    if (held as u64) < leaves {
-        return refused(SHORT_TABLE);
+    let mut i: usize = 0;
+    while i < leaves {
+        if covers_beyond(table, i, t) {
+            return Spot::At(i);
+        }
+        i += 1;
     }
-    look_in(leaves as usize, table, t)
+    Spot::Refused(PAST)
 }
 
-fn look_up_state(s: State, table: &[u64], t: u64) -> LookupAnswer
-    ensures { λ r. ⌜ r ≡ lookupState s (now (table .entry)) t ⌝ }
+// A leaf covers a time exactly where it covers its whole ticks, since it starts and ends at one.
+fn look_among(leaves: u64, scale: u64, table: &[u64], request: Request) -> Spot
+    requires { ⌜ leaves ≤ mostRecords ⌝ ∗ ⌜ 0 < scale ⌝ ∗ ⌜ scale < 2 ^ 32 ⌝ }
+    ensures { λ r. ⌜ Spots (now (table .entry)) (lookAmong leaves (now (table .entry)) (momentOf request scale)) r ⌝ }
 {
-    match s {
-        State::Reading {
-            count: _,
-            leaves: _,
-            now: _,
-            last: _,
-            stage: _,
-        } => refused(NOT_FINISHED),
-        State::Ended {
-            count: _,
-            leaves: _,
-            top: _,
-        } => refused(NOT_FINISHED),
-        State::Refused {
-            count: _,
-            leaves: _,
-            refusal: _,
-        } => refused(NOT_FINISHED),
-        State::Accepted {
-            count: _,
-            leaves,
-            top: _,
-        } => look_among(leaves, table, t),
+    let listed = leaves as usize;
+    if table.len() < NUMBERS * listed {
+        return Spot::Refused(SHORT_TABLE);
+    }
+    let ticks = ticks_asked(request, scale);
+    match ticks {
+        Ticks::At(t) => look_in(listed, table, t),
+        Ticks::Beyond(t) => look_beyond(listed, table, t),
+        Ticks::Past => Spot::Refused(PAST),
+        Ticks::NoTime => Spot::Refused(NO_TIME),
     }
 }
 
-// The leaf that covers t, with its number, in the list of an accepted segment.
-pub fn lookup(s: State, table: &[u64], t: u64) -> LookupAnswer
-    ensures { λ r. ⌜ r ≡ lookupOf s (now (table .entry)) t ⌝ }
+// With the numbers of an accepted state.
+fn look_accepted(count: u64, leaves: u64, top: Top, table: &[u64], request: Request) -> Spot
+    ensures { λ r. ⌜ Spots (now (table .entry)) (lookupOf (state.Accepted count leaves top) (now (table .entry)) request) r ⌝ }
+{
+    if range::accepted_in_range(count, leaves, top) {
+        return look_among(leaves, top.scale, table, request);
+    }
+    Spot::Refused(OUT_OF_RANGE)
+}
+
+// With any other state: the number that refuses it.
+fn not_accepted(s: State) -> u64
+    ensures { λ r. ⌜ answer.Refused (refusal r 0) ≡ pick (inRange s) (answer.Refused (refusal 22 0)) (answer.Refused (refusal 2 0)) ⌝ }
 {
     if range::in_range(s) {
-        return look_up_state(s, table, t);
+        return NOT_FINISHED;
     }
-    refused(OUT_OF_RANGE)
+    OUT_OF_RANGE
+}
+
+// With a state of either kind.
+fn spot_of(s: State, table: &[u64], request: Request) -> Spot
+    ensures { λ r. ⌜ Spots (now (table .entry)) (lookupOf s (now (table .entry)) request) r ⌝ }
+{
+    let State::Accepted { count, leaves, top } = s else {
+        return Spot::Refused(not_accepted(s));
+    };
+    look_accepted(count, leaves, top, table, request)
+}
+
+// The leaf that covers the time asked for, with its number, in the list of an accepted segment. A lookup reads no byte of the segment: it
+// refuses at place 0.
+pub fn lookup(s: State, table: &[u64], request: Request) -> LookupAnswer
+    ensures { λ r. ⌜ r ≡ lookupOf s (now (table .entry)) request ⌝ }
+{
+    let spot = spot_of(s, table, request);
+    match spot {
+        Spot::At(i) => LookupAnswer::Found((i + 1) as u64, records::record_at(table, i)),
+        Spot::Refused(number) => LookupAnswer::Refused(Refusal { number, place: 0 }),
+    }
 }

@@ -23,6 +23,7 @@ use Rattle.state.specs.Sidx as StepSidx
 use Rattle.state.specs.Stages
 use Rattle.state.specs.Step
 use Rattle.state.specs.Traf
+use Rattle.moment.specs.Moments
 use Rattle.covering.specs.Lookup
 use Rattle.covering.specs.Records
 use Rattle.descent.specs.Leaf as DescentLeaf
@@ -34,7 +35,7 @@ use Rattle.descent.specs.Whole
 unfoldable pub theSegments : Unit {0}
 unfolding
     Segments.bytes2 Segments.bytes4 Segments.box Segments.plainVersion Segments.stypBox Segments.entry Segments.sidxBox
-    Segments.tfhdBox Segments.tfdtBox Segments.leaf Segments.indexAndLeaves Segments.sWith Segments.tWith
+    Segments.tfhdBox Segments.tfdtBox Segments.leaf Segments.indexAndLeaves Segments.sWith Segments.sScaled Segments.tWith
 theSegments = tt
 
 -- the tree
@@ -89,5 +90,6 @@ theDescent = tt
 -- the lookup, and the records of leaves
 unfoldable pub theLookup : Unit {0}
 unfolding
-    Table.recordAt Lookup.recordCovers Lookup.coveringFrom Lookup.outside Lookup.found Lookup.lookupState Lookup.lookupOf Records.recordsOf
+    Moments.secondsAt Moments.momentOf
+    Table.recordAt Lookup.recordCovers Lookup.coveringFrom Lookup.outside Lookup.found Lookup.lookAt Lookup.lookupState Lookup.lookupOf Records.recordsOf
 theLookup = tt

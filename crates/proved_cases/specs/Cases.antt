@@ -15,6 +15,7 @@ use Rattle.state.specs.declared.State.the-variants as state
 use Rattle.state.specs.declared.FinishAnswer.{FinishAnswer}
 use Rattle.state.specs.declared.FinishAnswer.the-variants as finishes
 use Rattle.descent.specs.Whole.{wholeD}
+use Rattle.moment.specs.declared.Request.the-variants as request
 use Rattle.covering.specs.Lookup.{lookupOf}
 use Rattle.covering.specs.Records.{recordOf, recordsOf}
 use Rattle.covering.specs.declared.LookupAnswer.the-variants as lookups
@@ -92,12 +93,12 @@ leavesOfS = firstOfS ∷ secondOfS ∷ []
 
 -- "lookup in S: 4999 gives 23; 5000 and 6999 leaf 1; 7000 and 9999 leaf 2; 10000 gives 24", with a state and a leaf table
 pub record LookedUp (s : State) (table : List ℕ) : Type 0 where
-  pub at-4999 : lookupOf s table 4999 ≡ lookups.Refused (refusal 23 0)
-  pub at-5000 : lookupOf s table 5000 ≡ lookups.Found 1 (recordOf firstOfS)
-  pub at-6999 : lookupOf s table 6999 ≡ lookups.Found 1 (recordOf firstOfS)
-  pub at-7000 : lookupOf s table 7000 ≡ lookups.Found 2 (recordOf secondOfS)
-  pub at-9999 : lookupOf s table 9999 ≡ lookups.Found 2 (recordOf secondOfS)
-  pub at-10000 : lookupOf s table 10000 ≡ lookups.Refused (refusal 24 0)
+  pub at-4999 : lookupOf s table (request.Ticks 4999) ≡ lookups.Refused (refusal 23 0)
+  pub at-5000 : lookupOf s table (request.Ticks 5000) ≡ lookups.Found 1 (recordOf firstOfS)
+  pub at-6999 : lookupOf s table (request.Ticks 6999) ≡ lookups.Found 1 (recordOf firstOfS)
+  pub at-7000 : lookupOf s table (request.Ticks 7000) ≡ lookups.Found 2 (recordOf secondOfS)
+  pub at-9999 : lookupOf s table (request.Ticks 9999) ≡ lookups.Found 2 (recordOf secondOfS)
+  pub at-10000 : lookupOf s table (request.Ticks 10000) ≡ lookups.Refused (refusal 24 0)
 
 -- S is accepted, and looked up with the state that is left: in the table that is left, and in any that starts with S's records, one of
 -- nothing but these twelve numbers too.

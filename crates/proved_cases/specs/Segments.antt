@@ -35,10 +35,10 @@ sapWord = 2415919104
 unfoldable pub entry : ℕ → ℕ → ℕ → List ℕ
 entry kind size duration = bytes4 (typeBit * kind + size) ++ bytes4 duration ++ bytes4 sapWord
 
--- "`sidx` version 0, [size] bytes, ID 1, timescale 1000, time 5000, first offset 0", reserved, count, entries
-unfoldable pub sidxBox : ℕ → ℕ → List ℕ → List ℕ
-sidxBox size count entries =
-    box size sidx (plainVersion ++ bytes4 1 ++ bytes4 1000 ++ bytes4 5000 ++ bytes4 0 ++ bytes2 0 ++ bytes2 count ++ entries)
+-- "`sidx` version 0, [size] bytes, ID 1, timescale [..], time 5000, first offset 0", reserved, count, entries
+unfoldable pub sidxBox : ℕ → ℕ → ℕ → List ℕ → List ℕ
+sidxBox scale size count entries =
+    box size sidx (plainVersion ++ bytes4 1 ++ bytes4 scale ++ bytes4 5000 ++ bytes4 0 ++ bytes2 0 ++ bytes2 count ++ entries)
 
 -- "`tfhd` 16, track 1; `tfdt` 16"
 unfoldable pub tfhdBox : List ℕ
@@ -52,19 +52,23 @@ unfoldable pub leaf : ℕ → List ℕ
 leaf time = box 48 moof (box 40 traf (tfhdBox ++ tfdtBox time)) ++ box 12 mdat (bytes4 0)
 
 -- "two entries of size 60, durations 2000 and 3000"; "two leaves"; "Decode times 100 and 2100"
-unfoldable pub indexAndLeaves : ℕ → List ℕ
-indexAndLeaves second = sidxBox 56 2 (entry 0 60 2000 ++ entry 0 60 3000) ++ leaf 100 ++ leaf second
+unfoldable pub indexAndLeaves : ℕ → ℕ → List ℕ
+indexAndLeaves scale second = sidxBox scale 56 2 (entry 0 60 2000 ++ entry 0 60 3000) ++ leaf 100 ++ leaf second
 
 -- S, with the second decode time
 unfoldable pub sWith : ℕ → List ℕ
-sWith second = stypBox ++ indexAndLeaves second
+sWith second = stypBox ++ indexAndLeaves 1000 second
 
 abbrev pub S : List ℕ
 S = sWith 2100
 
+-- S, with another timescale
+unfoldable pub sScaled : ℕ → List ℕ
+sScaled scale = stypBox ++ indexAndLeaves scale 2100
+
 -- "T: a top `sidx` of 44 bytes with one index entry of size 176, duration 5000, then S's index and leaves", with the entry's duration
 unfoldable pub tWith : ℕ → List ℕ
-tWith duration = stypBox ++ sidxBox 44 1 (entry 1 176 duration) ++ indexAndLeaves 2100
+tWith duration = stypBox ++ sidxBox 1000 44 1 (entry 1 176 duration) ++ indexAndLeaves 1000 2100
 
 abbrev pub T : List ℕ
 T = tWith 5000

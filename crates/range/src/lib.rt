@@ -500,6 +500,13 @@ fn refused_fits(count: u64, leaves: u64, x: Refusal) -> bool
     )
 }
 
+// Whether each number of an accepted state is in its range.
+pub fn accepted_in_range(count: u64, leaves: u64, top: Top) -> bool
+    ensures { λ r. ⌜ r ≡ inRange (State.Accepted count leaves top) ⌝ }
+{
+    both(counts_fit(LIMIT, count, leaves), top_fits(top))
+}
+
 // Whether each number of a state is in its range.
 pub fn in_range(s: State) -> bool
     ensures { λ r. ⌜ r ≡ inRange s ⌝ }
@@ -521,9 +528,6 @@ pub fn in_range(s: State) -> bool
             leaves,
             refusal,
         } => refused_fits(count, leaves, refusal),
-        State::Accepted { count, leaves, top } => both(
-            counts_fit(LIMIT, count, leaves),
-            top_fits(top),
-        ),
+        State::Accepted { count, leaves, top } => accepted_in_range(count, leaves, top),
     }
 }

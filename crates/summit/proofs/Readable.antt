@@ -8,12 +8,13 @@ use denote.Ref.{RefT}
 use Rattle.basics.specs.Bytes.{number, AllBytes}
 use Rattle.basics.proofs.Bytes.{bytes-first, bytes-second}
 use Rattle.state.specs.declared.State.{State}
+use Rattle.moment.specs.declared.Request.{Request}
 use Rattle.state.specs.declared.FeedAnswer.{FeedAnswer}
 use Rattle.state.specs.Calls.{Out, startOf, finishOf}
 use Rattle.state.specs.Cutting.{Held, held, heldAfter, feedHeld, feedAll, joined}
 use Rattle.covering.specs.Lookup.{lookupOf}
 use Rattle.demands.specs.Demands.{inParts}
-use Rattle.summit.specs.Contracts.{StartCall, FeedCall, FinishCall, LookupCall, pieceOf, InOrder, SegmentRead, timeAsked, tableLent}
+use Rattle.summit.specs.Contracts.{StartCall, FeedCall, FinishCall, LookupCall, pieceOf, InOrder, SegmentRead, requestOf, tableLent}
 
 -- anything lent, wherever it stands
 lent : {X : Type 0} → X → RefT X
@@ -55,11 +56,11 @@ module _ (κs : Lfts 3) where
   fed-in-order [] h bytes = refl
   fed-in-order (part ∷ parts) h bytes = (refl, fed-in-order parts (heldAfter (feedHeld h part)) (bytes-second part (joined parts) bytes))
 
-  -- a time looked up, whatever the state and the table
-  pub looking : (s : State) (table : List ℕ) (t : ℕ) → (c : LookupCall) × (c .given .0 ≡ s) × (tableLent c ≡ table) × (timeAsked c ≡ t)
+  -- a request looked up, whatever the state and the table
+  pub looking : (s : State) (table : List ℕ) (r : Request) → (c : LookupCall) × (c .given .0 ≡ s) × (tableLent c ≡ table) × (requestOf c ≡ r)
   unfolding lent
-  looking s table t =
-      (record { lifetimes = (κs .0, tt); given = (s, (lent table, (t, tt))); result = lookupOf s table t; left = (tt, (tt, (tt, tt))); promised = λ met. refl }, refl, refl, refl)
+  looking s table r =
+      (record { lifetimes = (κs .0, tt); given = (s, (lent table, (r, tt))); result = lookupOf s table r; left = (tt, (tt, (tt, tt))); promised = λ met. refl }, refl, refl, refl)
 
   -- A segment is read, whatever its bytes and however they are cut.
   pub readable : (letters : List ℕ) (parts : List (List ℕ)) (work table : List ℕ) → AllBytes (joined parts) →

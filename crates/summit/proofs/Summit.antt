@@ -22,10 +22,10 @@ use Rattle.finish.proofs.OneOutcome.{finish-once}
 use Rattle.lookup.proofs.OneOutcome.{lookup-once}
 use Rattle.demands.specs.Demands.{Accepts, BeginsWith, inParts}
 use Rattle.covering.specs.Lookup.{lookupOf}
-use Rattle.demands.proofs.Exact.{accepts-exactly, found, refused-exactly, before, past}
+use Rattle.demands.proofs.Exact.{accepts-exactly, no-time, found, refused-exactly, earlier, past}
 use Rattle.demands.proofs.CutAnywhere.{cut-anywhere, accepted-long, accepted-belongs}
-use Rattle.summit.specs.Contracts.{FeedCall, FinishCall, LookupCall, pieceOf, givenTo, heldBy, InOrder, SegmentRead, timeAsked, tableLent}
-use Rattle.summit.specs.DemandsMet.{TimeAnswered, AcceptedRead, DemandsMet}
+use Rattle.summit.specs.Contracts.{FeedCall, FinishCall, LookupCall, pieceOf, givenTo, heldBy, InOrder, SegmentRead, requestOf, tableLent}
+use Rattle.summit.specs.DemandsMet.{RequestAnswered, AcceptedRead, DemandsMet}
 
 -- A call of feed: what it answers and leaves, and that its piece holds bytes.
 fed-as : (c : FeedCall) → (out (c .result .answer) (c .result .state) (c .left .1 .1 .0) (c .left .1 .1 .1 .0) ≡ feedHeld (givenTo c) (pieceOf c)) × AllBytes (pieceOf c)
@@ -72,23 +72,27 @@ module _ (brand : ℕ) (parts : List (List ℕ)) (work table : List ℕ) (o : Ou
   uncut : workBytes ≤ length work → o ≡ wholeOf brand bytes work table
   uncut long = read-is ∙ cut-anywhere brand parts work table read-bytes long
 
-  -- a time looked up after it
+  -- a request looked up after it
   module _ (ls : List Leaf) (allowed : segment brand bytes ≡ some ls) (fits : length ls ≤ room table) (long : workBytes ≤ length work) (c : LookupCall) (same : c .given .0 ≡ o .state)
       (begins : BeginsWith ls (tableLent c)) where
     -- the answer is that of the definition
-    looked : c .result ≡ lookupOf (wholeOf brand bytes work table .state) (tableLent c) (timeAsked c)
+    looked : c .result ≡ lookupOf (wholeOf brand bytes work table .state) (tableLent c) (requestOf c)
     looked =
         c .promised (lookup-once .asks-nothing (c .lifetimes) (c .given))
-        ∙ ap (λ (s : State). lookupOf s (tableLent c) (timeAsked c)) (same ∙ ap (λ (z : Out FinishAnswer). z .state) (uncut long))
+        ∙ ap (λ (s : State). lookupOf s (tableLent c) (requestOf c)) (same ∙ ap (λ (z : Out FinishAnswer). z .state) (uncut long))
 
-    answered : TimeAnswered brand bytes ls (timeAsked c) (c .result)
+    answered : RequestAnswered brand bytes ls (requestOf c) (c .result)
     answered =
-        subst (TimeAnswered brand bytes ls (timeAsked c)) (sym looked)
+        subst (RequestAnswered brand bytes ls (requestOf c)) (sym looked)
         (record {
-          found = found brand bytes work table read-bytes long ls allowed fits (tableLent c) begins (timeAsked c);
-          refused-exactly = refused-exactly brand bytes work table read-bytes long ls allowed fits (tableLent c) begins (timeAsked c);
-          before = before brand bytes work table read-bytes long ls allowed fits (tableLent c) begins (timeAsked c);
-          past = past brand bytes work table read-bytes long ls allowed fits (tableLent c) begins (timeAsked c);
+          timed = λ top q t asked.
+              record {
+                found = found brand bytes work table read-bytes long ls allowed fits (tableLent c) begins (requestOf c) top q t asked;
+                refused-exactly = refused-exactly brand bytes work table read-bytes long ls allowed fits (tableLent c) begins (requestOf c) top q t asked;
+                earlier = earlier brand bytes work table read-bytes long ls allowed fits (tableLent c) begins (requestOf c) top q t asked;
+                past = past brand bytes work table read-bytes long ls allowed fits (tableLent c) begins (requestOf c) top q t asked;
+              };
+          no-time = no-time brand bytes work table read-bytes long ls allowed fits (tableLent c) begins (requestOf c);
         })
 
   accepted : (k : ℕ) → o .answer ≡ finishes.Listed k → AcceptedRead brand bytes table o

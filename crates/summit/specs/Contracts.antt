@@ -9,6 +9,7 @@ use borrow.Fn.Kinds as kinds
 use denote.Triple.Clauses.{Lasts}
 use Rattle.basics.specs.Bytes.{number}
 use Rattle.basics.specs.Outcome.{afterCall}
+use Rattle.moment.specs.declared.Request.{Request}
 use Rattle.state.specs.declared.FinishAnswer.{FinishAnswer}
 use Rattle.state.specs.Calls.{Out, out}
 use Rattle.state.specs.Cutting.{Held, held}
@@ -73,9 +74,9 @@ pub record SegmentRead (brand : ℕ) (parts : List (List ℕ)) (work table : Lis
   pub ends : finish .given .0 ≡ end .state
   pub gives : out (finish .result .answer) (finish .result .state) (end .work) (end .table) ≡ o
 
--- the time that is looked up, the state and the table that it is looked up with
-abbrev pub timeAsked : LookupCall → ℕ
-timeAsked c = c .given .1 .1 .0
+-- the time that is asked for, and the table that it is looked up in
+abbrev pub requestOf : LookupCall → Request
+requestOf c = c .given .1 .1 .0
 
 abbrev pub tableLent : LookupCall → List ℕ
 tableLent c = c .given .1 .0 .now

@@ -1,8 +1,9 @@
 //! The peer in the place of the proved program: reads commands of docs/BATCH.md and answers by what the peer says. The comparison is
 //! tried with it. With a number as argument it has a fault of its own, for the comparison to find.
 
-use peer::calls::{Answer, Call, Source};
+use peer::calls::{Answer, Call, Source, PAGE};
 use peer::compare::stand_in::StandIn;
+use peer::time::Request;
 use std::io::{self, Read, Write};
 
 fn main() -> io::Result<()> {
@@ -22,7 +23,8 @@ fn main() -> io::Result<()> {
             let mut source = Source::new(&held[read..]);
             let Some(call) = Call::read(&mut source) else { break };
             read = held.len() - source.left();
-            if let Some(mut answer) = stand_in.answer(&call) {
+            let taken = misread(fault, &call, stand_in.state());
+            if let Some(mut answer) = stand_in.answer(&taken) {
                 plant(fault, &call, &mut answer);
                 answer.write(&mut answers);
             }
@@ -30,6 +32,20 @@ fn main() -> io::Result<()> {
         held.drain(..read);
         output.write_all(&answers)?;
         output.flush()?;
+    }
+}
+
+/// The call that is answered in the place of this one. With fault 12 the product of seconds and timescale is rounded to a double before
+/// it is compared, and with fault 13 negative zero is below zero.
+fn misread(fault: u64, call: &Call, state: &[u64]) -> Call {
+    match (fault, call, state) {
+        (12, Call::Lookup(Request::Seconds(bits)), [4, _, _, _, scale, ..]) => {
+            let product = f64::from_bits(*bits) * *scale as f64;
+            let fits = (0.0..18_446_744_073_709_551_616.0).contains(&product);
+            Call::Lookup(if fits { Request::Ticks(product as u64) } else { Request::Seconds(*bits) })
+        }
+        (13, Call::Lookup(Request::Seconds(bits)), _) if *bits == 1 << 63 => Call::Lookup(Request::Seconds(bits | 1)),
+        _ => call.clone(),
     }
 }
 
@@ -57,6 +73,10 @@ fn plant(fault: u64, call: &Call, answer: &mut Answer) {
         9 if said[0] == 13 => std::process::exit(1),
         // Nothing more is written.
         10 if said[0] == 14 => std::thread::sleep(std::time::Duration::from_secs(3600)),
+        // What is not a number, an infinity or below zero is past the list.
+        11 if said[0] == 26 => said[0] = 24,
+        // A refused mark comes back without its page.
+        14 if said[0] != 0 => said[PAGE] = 0,
         _ => (),
     }
 }

@@ -1,5 +1,6 @@
 //! Readings during which what is lent is changed: stored entries altered, tables of other rooms.
 
+use super::by_hand;
 use super::bytes::{self, Covered, Written, WrittenIndex};
 use super::damage;
 use super::grow::{self, Wish};
@@ -153,6 +154,9 @@ pub fn tables(session: &mut Session) {
     session.lookups(&material.written, 3);
     other_table(session, leaves, leaves);
     session.lookups(&material.written, 2);
+    if session.random.chance(50) {
+        by_hand::in_some_records(session, leaves.min(40), u64::from(material.written.scale.max(1)));
+    }
 }
 
 /// A leaf that is at fault at its last byte, with a table lent shortly before that has no room for it.

@@ -5,11 +5,13 @@ use super::grow::{self, Wish};
 use super::maker;
 use super::random::Random;
 use super::reading;
+use super::seconds;
 use super::sessions::{Session, WORK};
 use super::stand_in::StandIn;
 use super::states::{Made, Meant};
 use crate::calls::{Answer, Call, STATE_NUMBERS};
 use crate::ranges;
+use crate::time::Request;
 
 /// States made by hand, each with calls on it.
 pub fn states(session: &mut Session) {
@@ -59,7 +61,9 @@ pub fn edges(session: &mut Session) {
         let made = maker::make(session.random, &[8]);
         let meant = if session.random.chance(50) { made.at_edge(session.random) } else { made.broken(session.random) };
         doubt(session, &meant);
-        let call = session.random.weighted(&[(80, Call::Feed(Vec::new())), (10, Call::Finish), (10, Call::Lookup(0))]);
+        let by_seconds = seconds::call(session.random, 1000, &[]);
+        let by_ticks = Call::Lookup(Request::Ticks(0));
+        let call = session.random.weighted(&[(80, Call::Feed(Vec::new())), (10, Call::Finish), (10, by_ticks), (10, by_seconds)]);
         session.calls.extend([Call::LendState(meant.numbers), call]);
     }
 }
@@ -129,14 +133,18 @@ fn feed_some(session: &mut Session, bytes: &[u8], ends: &[usize]) {
 }
 
 fn last_calls(session: &mut Session, bytes: &[u8]) {
-    match session.random.below(7) {
+    match session.random.below(8) {
         0..=2 => session.calls.push(Call::Finish),
         3 => {
-            let time = session.random.number();
-            session.calls.extend([Call::Finish, Call::Lookup(time)]);
+            let ticks = session.random.number();
+            session.calls.extend([Call::Finish, Call::Lookup(Request::Ticks(ticks))]);
         }
         4 => session.calls.push(Call::Start { brand: session.random.word() }),
         5 => session.calls.push(Call::Whole { brand: session.random.word(), segment: bytes.to_vec() }),
+        6 => {
+            session.calls.push(Call::Finish);
+            session.any_seconds();
+        }
         _ => session.disturb(),
     }
 }
@@ -193,23 +201,32 @@ fn change_a_number(random: &mut Random, numbers: &mut [u64]) {
 pub fn lookups(session: &mut Session) {
     let leaves = session.random.weighted(&[(10, 0), (30, 1), (30, 2), (25, 5), (4, 40), (1, 4096)]);
     let state = maker::accepted(session.random, leaves as u64);
+    let scale = state[4];
     session.calls.push(Call::LendState(state));
     session.lend_work(WORK);
     let more = session.random.pick(&[0, 0, 1, 6]);
     session.lend_table(6 * leaves + more);
     for _ in 0..session.random.count(1..=2) {
-        let records = some_records(session.random, leaves.min(40));
-        session.write_table(0, records.clone());
-        for _ in 0..session.random.count(2..=6) {
-            let time = edge_of_records(session.random, &records);
-            session.calls.push(Call::Lookup(time));
-        }
+        in_some_records(session, leaves.min(40), scale);
     }
     if session.random.chance(40) {
         let fewer = session.random.index(6 * leaves + 1);
         session.lend_table(fewer);
-        let time = session.random.number();
-        session.calls.push(Call::Lookup(time));
+        let ticks = session.random.number();
+        session.calls.push(Call::Lookup(Request::Ticks(ticks)));
+        session.any_seconds();
+    }
+}
+
+/// Writes records of any contents for so many leaves, and looks up in them.
+pub fn in_some_records(session: &mut Session, leaves: usize, scale: u64) {
+    let records = some_records(session.random, leaves);
+    session.write_table(0, records.clone());
+    let covered: Vec<(u64, u64)> = records.chunks(6).map(|record| (record[2], record[3])).collect();
+    for _ in 0..session.random.count(2..=6) {
+        let ticks = edge_of_records(session.random, &records);
+        let by_seconds = seconds::call(session.random, scale, &covered);
+        session.calls.extend([Call::Lookup(Request::Ticks(ticks)), by_seconds]);
     }
 }
 

@@ -65,6 +65,8 @@ pub struct WrittenLeaf {
 #[derive(Clone, Debug, Default)]
 pub struct Written {
     pub bytes: Vec<u8>,
+    /// The timescale of the top index.
+    pub scale: u32,
     pub fields: Vec<Field>,
     /// Where headers, boxes and the gap end.
     pub ends: Vec<usize>,
@@ -74,7 +76,7 @@ pub struct Written {
 
 /// The segment's bytes.
 pub fn write(segment: &Segment) -> Written {
-    let mut out = Written::default();
+    let mut out = Written { scale: segment.top.scale, ..Written::default() };
     out.pieces(&segment.before);
     out.index(&segment.top, 1, &segment.gap);
     out.bytes.extend_from_slice(&segment.after);

@@ -1,6 +1,7 @@
 //! Segments that document 01 accepts, grown at random.
 
 use super::random::Random;
+use super::seconds;
 use super::shape::{Body, Entry, Index, Kind, Piece, Segment, Under, AT_TOP, IN_MOOF, IN_TRAF, KNOWN};
 
 /// What a segment is to be like.
@@ -125,7 +126,7 @@ impl<'a> Grower<'a> {
     fn new(random: &'a mut Random, wish: Wish) -> Grower<'a> {
         let any = random.word();
         let id = random.pick(&[0, 1, 1, 1, 2, u32::MAX, any]);
-        let scale = random.pick(&[1, 1000, 90_000, u32::MAX, any.max(1)]);
+        let scale = seconds::scale(random);
         let decode = random.pick(&[0, 0, 100, u64::from(u32::MAX) - 3, u64::MAX - 5, u64::from(any)]);
         let rise = random.pick(&[0, 1, 2, 1000, 1 << 31, 1 << 60]);
         let wide = random.pick(&[0, 0, 10, 40]);
@@ -297,12 +298,12 @@ impl<'a> Grower<'a> {
 #[cfg(test)]
 mod tests {
     use super::*;
-    use crate::calls::Call;
+    use crate::calls::{Call, SAID};
     use crate::compare::bytes::{self, Written};
     use crate::compare::stand_in::StandIn;
 
     /// What the peer's whole reader says of the segment, and the table it fills: position, size, start and duration of each leaf.
-    fn read(segment: &Segment, written: &Written) -> ([u64; 8], Vec<[u64; 4]>) {
+    fn read(segment: &Segment, written: &Written) -> ([u64; SAID], Vec<[u64; 4]>) {
         let mut peer = StandIn::default();
         let numbers = 6 * written.leaves.len();
         peer.answer(&Call::LendTable { numbers, each: 0 });

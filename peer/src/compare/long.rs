@@ -5,6 +5,7 @@ use super::sequence::Sequence;
 use super::sessions::WORK;
 use super::states::LIMIT;
 use crate::calls::{Call, STATE_NUMBERS};
+use crate::time::Request;
 
 const PART: usize = 524_288;
 const BRAND: [u8; 4] = *b"msdh";
@@ -32,7 +33,7 @@ pub fn past_the_limit(random: &mut Random) -> Sequence {
         tail.push(Call::Feed(vec![random.byte()]));
     }
     tail.insert(0, Call::Feed(ending));
-    tail.extend([Call::Feed(vec![0; 9]), Call::Finish, Call::Lookup(0)]);
+    tail.extend([Call::Feed(vec![0; 9]), Call::Finish, Call::Lookup(Request::Ticks(0)), Call::Lookup(Request::Seconds(0))]);
     Sequence { lead, repeated: Some((Call::Feed(vec![0; PART]), parts)), tail, doubt: None }
 }
 

@@ -1,6 +1,7 @@
 //! Makes states by hand, from the tables of docs/STATE.md alone: in every stage and case, inside the ranges.
 
 use super::random::Random;
+use super::seconds;
 use super::states::{spelled_below, Made, Rule, Width, LIMIT};
 use crate::calls::STATE_NUMBERS;
 
@@ -27,7 +28,8 @@ pub fn make(random: &mut Random, ends: &[usize]) -> Made {
 /// A state of an accepted finish with so many leaves.
 pub fn accepted(random: &mut Random, leaves: u64) -> Vec<u64> {
     let mut numbers = vec![0; STATE_NUMBERS];
-    numbers[..7].copy_from_slice(&[4, random.below(LIMIT + 1), leaves, u64::from(random.word()), 1, 0, random.number()]);
+    let (count, id, scale) = (random.below(LIMIT + 1), u64::from(random.word()), u64::from(seconds::scale(random)));
+    numbers[..7].copy_from_slice(&[4, count, leaves, id, scale, 0, random.number()]);
     numbers
 }
 
@@ -137,11 +139,10 @@ impl Maker<'_> {
     }
 
     fn top(&mut self) {
-        let (id, scale) = (self.random.word(), self.random.word());
+        let (id, scale) = (self.random.word(), seconds::scale(self.random));
         let id = self.random.pick(&[0, 1, 1, u64::from(id)]);
         self.at_most(id, u64::from(u32::MAX));
-        let scale = self.random.pick(&[1, 1000, u64::from(scale.max(1))]);
-        let at = self.at_most(scale, u64::from(u32::MAX));
+        let at = self.at_most(u64::from(scale), u64::from(u32::MAX));
         self.made.rules.push(Rule::AtLeast { at, least: 1 });
         let start = self.any();
         let most = u64::MAX - self.made.numbers[start];

@@ -84,22 +84,24 @@ fn overwrite<T: Clone>(into: &mut [T], at: usize, items: &[T]) {
 #[cfg(test)]
 mod tests {
     use super::*;
+    use crate::calls::SAID;
+    use crate::time::Request;
 
     #[test]
     fn what_was_lent_and_changed_is_lent_again() {
         let mut mirror = Mirror::default();
         mirror.see(&Call::LendTable { numbers: 2, each: 5 }, None);
         let run = Run { at: 1, now: vec![8] };
-        let answer = Answer { said: [0; 8], state: vec![1, 2], work: vec![Run { at: 0, now: vec![3] }], table: vec![run] };
+        let answer = Answer { said: [0; SAID], state: vec![1, 2], work: vec![Run { at: 0, now: vec![3] }], table: vec![run] };
         mirror.see(&Call::Finish, Some(&answer));
-        mirror.see(&Call::Lookup(4), None);
+        mirror.see(&Call::Lookup(Request::Ticks(4)), None);
         let expected = vec![
             Call::LendState(vec![1, 2]),
             Call::LendWork { bytes: WORK, each: 0 },
             Call::LendTable { numbers: 2, each: 0 },
             Call::WriteWork { at: 0, bytes: vec![3] },
             Call::WriteTable { at: 0, numbers: vec![5, 8] },
-            Call::Lookup(4),
+            Call::Lookup(Request::Ticks(4)),
         ];
         assert_eq!(mirror.calls(), expected);
     }

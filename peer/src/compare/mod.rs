@@ -16,6 +16,7 @@ pub mod options;
 pub mod random;
 pub mod reading;
 pub mod report;
+pub mod seconds;
 pub mod sequence;
 pub mod sessions;
 pub mod shape;

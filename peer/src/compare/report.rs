@@ -1,11 +1,11 @@
 //! What is told: how often each number came, calls and answers in words.
 
-use crate::calls::{Answer, Call, Run};
-use crate::peer::Said;
+use crate::calls::{Answer, Call, Run, SAID};
+use crate::peer::{self, Said};
 use std::fmt::{Debug, Write};
 
-/// The numbers that document 01 has.
-const NUMBERS: usize = 25;
+/// The numbers that document 01 has, and 26 of request A1.
+const NUMBERS: usize = 26;
 /// How many bytes or numbers of a call are listed.
 const LISTED: usize = 400;
 
@@ -20,7 +20,7 @@ pub struct Tally {
 impl Tally {
     pub fn add(&mut self, answer: &Answer) {
         self.calls += 1;
-        // A number above 25 is a difference, which the peer tells of.
+        // A number above these is a difference, which the peer tells of.
         if let Some(times) = self.numbers.get_mut(answer.said[0] as usize) {
             *times += 1;
         }
@@ -57,7 +57,7 @@ pub fn call(call: &Call) -> String {
         Call::Feed(part) => format!("feed of {}", bytes(part)),
         Call::Finish => "finish".to_string(),
         Call::Whole { brand, segment } => format!("whole reader, brand {}, segment of {}", brand_name(*brand), bytes(segment)),
-        Call::Lookup(time) => format!("lookup of {time}"),
+        Call::Lookup(_) | Call::Mark(_) => peer::name(call),
         Call::LendState(state) => format!("lend the state {}", numbers(state)),
         Call::LendWork { bytes, each } => format!("lend a work area of {bytes} bytes, each {each}"),
         Call::LendTable { numbers, each } => format!("lend a leaf table of {numbers} numbers, each {each}"),
@@ -79,11 +79,12 @@ pub fn said_by_peer(said_by: &Said) -> String {
     format!("{}; state [{}]{}", said(&said_by.said), told.join(" "), changes(&said_by.work, &said_by.table))
 }
 
-fn said(said: &[u64; 8]) -> String {
+fn said(said: &[u64; SAID]) -> String {
+    let page = |page: &u64| if *page == 0 { String::new() } else { format!(", page {page}") };
     match said {
-        [0, given, 0, 0, 0, 0, 0, 0] => format!("answered {given}"),
-        [0, given, record @ ..] => format!("answered {given} {record:?}"),
-        [number, place, 0, 0, 0, 0, 0, 0] => format!("refused {number} {place}"),
+        [0, given, 0, 0, 0, 0, 0, 0, of] => format!("answered {given}{}", page(of)),
+        [0, given, record @ .., of] => format!("answered {given} {record:?}{}", page(of)),
+        [number, place, 0, 0, 0, 0, 0, 0, of] => format!("refused {number} {place}{}", page(of)),
         other => format!("{other:?}"),
     }
 }

@@ -6,9 +6,11 @@ use super::bytes::Written;
 use super::long;
 use super::random::Random;
 use super::reading;
+use super::seconds;
 use super::sequence::Sequence;
 use super::shrink::is_of_the_form;
 use crate::calls::{Call, STATE_NUMBERS};
+use crate::time::Request;
 
 /// The least that a work area has.
 pub const WORK: usize = 49_152;
@@ -155,11 +157,11 @@ impl<'a> Session<'a> {
 
     /// A call or a change of what is lent that may come between any two parts.
     pub fn disturb(&mut self) {
-        match self.random.below(8) {
+        match self.random.below(9) {
             0 | 1 => self.feed(&[]),
             2 => {
-                let time = self.random.number();
-                self.calls.push(Call::Lookup(time));
+                let ticks = self.random.number();
+                self.calls.push(Call::Lookup(Request::Ticks(ticks)));
             }
             3 if self.work > 0 => {
                 let (at, count) = (self.random.index(self.work), self.random.count(1..=24));
@@ -176,6 +178,7 @@ impl<'a> Session<'a> {
                 self.lend_any_table(leaves);
             }
             6 => self.short_work_for_a_call(),
+            7 => self.any_seconds(),
             _ => self.calls.push(Call::Finish),
         }
     }
@@ -190,8 +193,25 @@ impl<'a> Session<'a> {
         self.lend_work(WORK);
     }
 
-    /// Lookups at the edges of the leaves, at both ends of time, and anywhere.
+    /// A lookup by seconds, or a mark, whatever the leaves are.
+    pub fn any_seconds(&mut self) {
+        let scale = u64::from(seconds::scale(self.random));
+        let call = seconds::call(self.random, scale, &[(0, 1000), (5000, 2000)]);
+        self.calls.push(call);
+    }
+
+    /// So many lookups by ticks and as many by seconds.
     pub fn lookups(&mut self, written: &Written, count: usize) {
+        self.lookups_by_ticks(written, count);
+        let leaves: Vec<(u64, u64)> = written.leaves.iter().map(|leaf| (leaf.start, u64::from(leaf.duration))).collect();
+        for _ in 0..count {
+            let call = seconds::call(self.random, u64::from(written.scale.max(1)), &leaves);
+            self.calls.push(call);
+        }
+    }
+
+    /// Lookups at the edges of the leaves, at both ends of time, and anywhere.
+    fn lookups_by_ticks(&mut self, written: &Written, count: usize) {
         for _ in 0..count {
             let any = self.random.number();
             let mut times = vec![0, u64::MAX, any];
@@ -202,8 +222,8 @@ impl<'a> Session<'a> {
                 let edges = [leaf.start.wrapping_sub(1), leaf.start, leaf.start.wrapping_add(1), end.wrapping_sub(1), end, within];
                 times.extend(edges.iter().chain(&edges));
             }
-            let time = self.random.pick(&times);
-            self.calls.push(Call::Lookup(time));
+            let ticks = self.random.pick(&times);
+            self.calls.push(Call::Lookup(Request::Ticks(ticks)));
         }
     }
 }

@@ -4,6 +4,7 @@ use super::judge::{self, Fault};
 use super::sequence::Sequence;
 use super::sessions::WORK;
 use crate::calls::Call;
+use crate::time::{Mark, Request};
 use std::time::{Duration, Instant};
 
 /// The most tries, and the time that they may take together.
@@ -204,8 +205,21 @@ fn plainer(call: &Call, way: usize) -> Option<Call> {
             let fewer = [0, 6, 12, 60, numbers / 2][way - 1];
             Some(Call::LendTable { numbers: fewer.min(*numbers), each: *each })
         }
-        (Call::Lookup(_), 0) => Some(Call::Lookup(0)),
-        (Call::Lookup(time), 1) => Some(Call::Lookup(time / 2)),
+        (Call::Lookup(request), _) => plainer_request(*request, way).map(Call::Lookup),
+        (Call::Mark(mark), 0) => Some(Call::Lookup(Request::Seconds(mark.seconds))),
+        (Call::Mark(mark), 1) => Some(Call::Mark(Mark { page: 1, ..*mark })),
+        (Call::Mark(mark), 2) => Some(Call::Mark(Mark { seconds: 0, ..*mark })),
+        _ => None,
+    }
+}
+
+/// A time made smaller, or seconds with fewer digits, in the way of that number.
+fn plainer_request(request: Request, way: usize) -> Option<Request> {
+    match (request, way) {
+        (Request::Ticks(_), 0) => Some(Request::Ticks(0)),
+        (Request::Ticks(ticks), 1) => Some(Request::Ticks(ticks / 2)),
+        (Request::Seconds(_), 0) => Some(Request::Seconds(0)),
+        (Request::Seconds(bits), 1..=3) => Some(Request::Seconds(bits & (u64::MAX << [52, 32, 16][way - 1]))),
         _ => None,
     }
 }
@@ -226,7 +240,7 @@ pub fn is_of_the_form(calls: &[Call]) -> bool {
         }
         Call::WriteWork { at, bytes } => at + bytes.len() <= work,
         Call::WriteTable { at, numbers } => at + numbers.len() <= table,
-        Call::Start { .. } | Call::Finish | Call::Lookup(_) => true,
+        Call::Start { .. } | Call::Finish | Call::Lookup(_) | Call::Mark(_) => true,
     })
 }
 
@@ -241,7 +255,15 @@ mod tests {
     #[test]
     fn what_does_not_matter_is_left_out() {
         let feed = |byte: u8| Call::Feed(vec![byte; 40]);
-        let calls = vec![Call::LendTable { numbers: 60, each: 7 }, feed(1), Call::Finish, feed(2), feed(9), Call::Lookup(3), Call::Finish];
+        let calls = vec![
+            Call::LendTable { numbers: 60, each: 7 },
+            feed(1),
+            Call::Finish,
+            feed(2),
+            feed(9),
+            Call::Lookup(Request::Ticks(3)),
+            Call::Finish,
+        ];
         // The fault shows where a part with a byte of 9 was fed.
         let has_nine = |call: &Call| matches!(call, Call::Feed(part) if part.contains(&9));
         let short = shrink(calls, &mut |calls| calls.iter().position(has_nine).map(fault)).expect("there is a fault");

@@ -36,13 +36,18 @@ impl StandIn {
         Some(answer)
     }
 
+    /// The state as it was answered or lent last.
+    pub fn state(&self) -> &[u64] {
+        &self.state
+    }
+
     /// Something that a feed on a state made by hand may come to, where the peer cannot say what it does come to.
     fn refusal(&self) -> Answer {
         let count = self.state.get(1).copied().unwrap_or(0);
         let (number, place) = if count == LIMIT { (3, LIMIT) } else { (19, 0) };
         let mut state = vec![0; STATE_NUMBERS];
         state[..5].copy_from_slice(&[3, count + 1, self.state.get(2).copied().unwrap_or(0), number, place]);
-        Answer { said: [number, place, 0, 0, 0, 0, 0, 0], state, work: Vec::new(), table: Vec::new() }
+        Answer { said: [number, place, 0, 0, 0, 0, 0, 0, 0], state, work: Vec::new(), table: Vec::new() }
     }
 }
 

@@ -2,7 +2,7 @@
 //! to on a state made by hand; so this is asked of the answers alone.
 
 use super::mirror::Mirror;
-use crate::calls::{Answer, Call};
+use crate::calls::{Answer, Call, SAID};
 use std::collections::hash_map::{DefaultHasher, Entry};
 use std::collections::HashMap;
 use std::hash::{Hash, Hasher};
@@ -13,7 +13,7 @@ type Fed = (u64, Vec<u8>);
 /// What a feed came to.
 #[derive(Clone, Debug, PartialEq, Eq)]
 struct Outcome {
-    said: [u64; 8],
+    said: [u64; SAID],
     state: Vec<u64>,
     lent: u64,
 }
@@ -33,7 +33,7 @@ impl Twins {
     pub fn wrong(&mut self, call: &Call, answer: Option<&Answer>) -> Option<String> {
         let part = match call {
             Call::Feed(part) if self.by_hand => part,
-            Call::Lookup(_) => return None,
+            Call::Lookup(_) | Call::Mark(_) => return None,
             _ => {
                 self.fed = None;
                 self.by_hand = matches!(call, Call::LendState(_));
@@ -72,7 +72,7 @@ mod tests {
     use super::*;
 
     fn answer(count: u64) -> Answer {
-        Answer { said: [0, count, 0, 0, 0, 0, 0, 0], state: vec![count], work: Vec::new(), table: Vec::new() }
+        Answer { said: [0, count, 0, 0, 0, 0, 0, 0, 0], state: vec![count], work: Vec::new(), table: Vec::new() }
     }
 
     #[test]

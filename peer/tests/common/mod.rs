@@ -3,6 +3,7 @@
 
 use peer::calls::{Answer, Call};
 use peer::peer::{Peer, Said};
+use peer::time::{Mark, Request};
 
 pub const MSDH: u32 = u32::from_be_bytes(*b"msdh");
 pub const SAP: u64 = 2_415_919_104;
@@ -143,8 +144,23 @@ impl Session {
         first_two(&self.call(Call::Finish))
     }
 
-    pub fn lookup(&mut self, time: u64) -> (u64, u64) {
-        first_two(&self.call(Call::Lookup(time)))
+    pub fn lookup(&mut self, ticks: u64) -> (u64, u64) {
+        first_two(&self.call(by_ticks(ticks)))
+    }
+
+    pub fn seconds(&mut self, seconds: f64) -> (u64, u64) {
+        self.bits(seconds.to_bits())
+    }
+
+    /// Seconds as the bits of a double.
+    pub fn bits(&mut self, bits: u64) -> (u64, u64) {
+        first_two(&self.call(Call::Lookup(Request::Seconds(bits))))
+    }
+
+    /// A mark; the page that comes back is the third number.
+    pub fn mark(&mut self, page: u32, seconds: f64) -> (u64, u64, u64) {
+        let said = self.call(Call::Mark(Mark { page, seconds: seconds.to_bits() })).said;
+        (said[0], said[1], said[8])
     }
 
     /// The state's numbers, those that are not said as 0. An empty part changes nothing and hands the state back.
@@ -152,6 +168,10 @@ impl Session {
         let said = self.call(Call::Feed(Vec::new()));
         filled(&said).state
     }
+}
+
+pub fn by_ticks(ticks: u64) -> Call {
+    Call::Lookup(Request::Ticks(ticks))
 }
 
 pub fn first_two(said: &Said) -> (u64, u64) {

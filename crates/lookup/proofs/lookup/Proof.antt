@@ -1,30 +1,37 @@
--- `lookup::lookup` meets its contract, by those of `in_range`, `look_up_state` and `refused`, by the laws `pick-yes` and `pick-no`, and by the
--- definition of `lookupOf`.
-use mathlib.Core.Path.{sym, _∙_}
-use Rattle.basics.proofs.Picks.{pick-yes, pick-no}
-use Rattle.state.specs.Ranges.{inRange}
-use Rattle.covering.specs.Lookup.{lookupOf}
+-- `lookup::lookup` meets its contract, by those of `spot_of` and `record_at`, and by the definition of `Spots`.
+use Prim.Native.Nat.{_+_}
+use mathlib.Core.Path.{ap, _∙_}
+use native.Mathlib.Omega.{arith}
+use Rattle.table.specs.declared.Record.{Record}
+use Rattle.covering.specs.declared.LookupAnswer.the-variants as answer
 use borrow.Author.Needs.{needs}
 use Rattle.lookup.proofs.lookup.Statement.{statement}
 use Rattle.lookup.proofs.lookup.Tie as tie
 
+add-t8 : tie.Need-add-t8
+add-t8 c =
+    let arm = c .before in
+    let found = rw (arm .spot .given .1) at (arm .before .before .spot-of .ensures) in
+    omega (arith, found .0)
+
+record-at-requires : tie.Need-record-at-requires
+record-at-requires c κs =
+    let arm = c .before in
+    let found = rw (arm .spot .given .1) at (arm .before .before .spot-of .ensures) in
+    found .0
+
 returns : tie.Need-returns
-unfolding lookupOf
 returns c =
-    let test = c .before in
-    let at-in-range = test .before in
-    let a = at-in-range .before .before .args in
-    c .look-up-state .ensures
-    ∙ sym (pick-yes (inRange (a .s)) _ _ (sym (at-in-range .in-range .ensures) ∙ test .if1 .taken))
+    let arm = c .before .before in
+    let found = rw (arm .spot .given .1) at (arm .before .before .spot-of .ensures) in
+    ap (λ (r : Record). answer.Found (arm .spot .given .0 .0 + 1) r) (c .record-at .ensures) ∙ found .1
 
 returns-2 : tie.Need-returns-2
-unfolding lookupOf
 returns-2 c =
-    let test = c .before in
-    let at-in-range = test .before in
-    let a = at-in-range .before .before .args in
-    c .refused .ensures
-    ∙ sym (pick-no (inRange (a .s)) _ _ (sym (at-in-range .in-range .ensures) ∙ test .if1 .left))
+    let arm = c .before in
+    rw (arm .spot2 .given .1) at (arm .before .before .spot-of .ensures)
 
 pub lookup-spec : {M : Type 1} → statement M
-lookup-spec = tie.close (tie.spec (search needs) (search needs) returns (search needs) returns-2)
+lookup-spec =
+    tie.close
+    (tie.spec (search needs) (search needs) add-t8 record-at-requires (search needs) returns returns-2)
