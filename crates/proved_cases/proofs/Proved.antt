@@ -1,16 +1,23 @@
--- The cases of document 01 marked P, each one statement over one list, by computation; what a statement says stands in specs `Cases`.
+-- The cases of document 01 marked P, and cases of request A1, each one statement over one list, by computation; what a statement says stands in specs `Cases`.
 use Prim.Native.Nat.{ℕ}
 use mathlib.Core.Path.{_≡_, refl}
 use mathlib.Core.List.{List, [], _∷_, _++_}
-use mathlib.Core.Bool.{false}
+use mathlib.Core.Bool.{true, false}
+use mathlib.Core.Option.{some}
 use native.Mathlib.Omega.{arith}
 use lib.Dec.{ltb}
+use lib.Ieee.{binary64, mul, fits}
 use lib.ListN.{length, take, drop}
 use borrow.Author.Tests.{le-ltb}
 use Rattle.machine.specs.Faults.{refusal}
-use Rattle.covering.specs.Records.{recordsOf}
-use Rattle.proved_cases.specs.Segments.{S, sWith, T, tWith}
-use Rattle.proved_cases.specs.Cases.{work0, table0, leafAt, workS, workT, acceptedState, IsAccepted, IsRefused, firstOfS, leavesOfS, LookedUp, LookupInS}
+use Rattle.moment.specs.declared.Request.the-variants as request
+use Rattle.state.specs.Calls.{out}
+use Rattle.state.specs.declared.FinishAnswer.the-variants as finishes
+use Rattle.covering.specs.Lookup.{lookupOf}
+use Rattle.covering.specs.Records.{recordOf, recordsOf}
+use Rattle.covering.specs.declared.LookupAnswer.the-variants as lookups
+use Rattle.proved_cases.specs.Segments.{S, sWith, sScaled, T, tWith}
+use Rattle.proved_cases.specs.Cases.{work0, table0, byTree, byBytes, leafAt, tableWith, workS, workT, acceptedState, scaledState, nearSeven, double600, double7000, IsAccepted, IsRefused, firstOfS, secondOfS, leavesOfS, LookedUp, SecondsLookedUp, LookupInS, SecondsInS, RoundingMisses}
 use Rattle.proved_cases.proofs.Computing.{theSegments, theTree, theDescent, theLookup}
 
 -- S: 196 bytes, leaves at 76 and 136.
@@ -38,6 +45,73 @@ s-lookup =
       records = records-of-s;
       in-left = rw (s-accepted .fed) (looked-up (drop 12 table0));
       in-any = λ behind. rw (s-accepted .fed) (looked-up behind);
+    }
+
+-- the same table, by seconds
+seconds-looked-up : (behind : List ℕ) → SecondsLookedUp (acceptedState 196 leavesOfS) (recordsOf leavesOfS ++ behind)
+unfolding theDescent theLookup
+seconds-looked-up behind =
+    let fits : ltb (length (recordsOf leavesOfS ++ behind)) 12 ≡ false = le-ltb (length (recordsOf leavesOfS ++ behind)) 12 (omega arith) in
+    record {
+      below-5 = rw fits;
+      at-5 = rw fits;
+      below-7 = rw fits;
+      at-7 = rw fits;
+      below-10 = rw fits;
+      at-10 = rw fits;
+      negative-zero = rw fits;
+      largest = rw fits;
+      not-a-number = rw fits;
+      infinities = λ sign. rw fits;
+      below-zero = rw fits;
+    }
+
+-- Lookup in S by seconds: the doubles next below 5, 7 and 10, and these; zero with a sign; the largest; and what is no time.
+pub s-seconds : SecondsInS
+s-seconds =
+    record {
+      accepts = s-accepted;
+      in-left = rw (s-accepted .fed) (seconds-looked-up (drop 12 table0));
+      in-any = λ behind. rw (s-accepted .fed) (seconds-looked-up behind);
+    }
+
+-- S with timescale 600, read
+scaled-tree : byTree (sScaled 600) ≡ some leavesOfS
+unfolding theSegments theTree
+scaled-tree = refl
+
+scaled-fed : byBytes (sScaled 600) ≡ out (finishes.Listed 2) (scaledState 600) workS (tableWith leavesOfS)
+unfolding theSegments theDescent theLookup
+scaled-fed = refl
+
+-- the leaves that are found in it
+scaled-exact : lookupOf (scaledState 600) (tableWith leavesOfS) (request.Seconds nearSeven) ≡ lookups.Found 1 (recordOf firstOfS)
+unfolding theDescent theLookup
+scaled-exact = refl
+
+scaled-ticks : lookupOf (scaledState 600) (tableWith leavesOfS) (request.Ticks 7000) ≡ lookups.Found 2 (recordOf secondOfS)
+unfolding theDescent theLookup
+scaled-ticks = refl
+
+near-seven-held : fits binary64 nearSeven ≡ true
+unfolding fits
+near-seven-held = refl
+
+-- the product, rounded to a double
+near-seven-rounded : mul binary64 nearSeven double600 ≡ double7000
+unfolding mul
+near-seven-rounded = refl
+
+-- A product that is rounded first gives the wrong leaf.
+pub rounding-misses : RoundingMisses
+rounding-misses =
+    record {
+      held = near-seven-held;
+      rounded = near-seven-rounded;
+      tree = scaled-tree;
+      fed = scaled-fed;
+      exact = rw scaled-fed scaled-exact;
+      of-rounded = rw scaled-fed scaled-ticks;
     }
 
 -- S without its last byte: 20, place 195.

@@ -1,10 +1,13 @@
--- What a case of document 01 marked P says: of one list of bytes, what the tree, the byte definition and the descent give for it. The brand
+-- What a case of document 01 marked P says, and a case of request A1: of one list of bytes, what the tree, the byte definition and the descent give for it. The brand
 -- wanted is `msdh`; a work area of 49,152 bytes and a leaf table with room for 256 leaves are lent, all 0.
 use Prim.Native.Nat.{ℕ, _*_}
 use mathlib.Core.Path.{_≡_}
 use mathlib.Core.List.{List, [], _∷_, _++_}
 use mathlib.Core.Option.{Option, some, none}
+use mathlib.Core.Bool.{Bool, true, false}
+use lib.IntN.{pos, negsuc}
 use lib.ListN.{length, replicate, drop}
+use lib.Ieee.{Float, nan, inf, fin, binary64, mul, fits}
 use Rattle.table.specs.Table.{recordNumbers}
 use Rattle.segment.specs.Tree.{Leaf, segment}
 use Rattle.machine.specs.Faults.{refusal}
@@ -19,7 +22,7 @@ use Rattle.moment.specs.declared.Request.the-variants as request
 use Rattle.covering.specs.Lookup.{lookupOf}
 use Rattle.covering.specs.Records.{recordOf, recordsOf}
 use Rattle.covering.specs.declared.LookupAnswer.the-variants as lookups
-use Rattle.proved_cases.specs.Segments.{msdh, sapWord, entry, S}
+use Rattle.proved_cases.specs.Segments.{msdh, sapWord, entry, S, sScaled}
 
 -- what is lent
 abbrev pub work0 : List ℕ
@@ -100,6 +103,24 @@ pub record LookedUp (s : State) (table : List ℕ) : Type 0 where
   pub at-9999 : lookupOf s table (request.Ticks 9999) ≡ lookups.Found 2 (recordOf secondOfS)
   pub at-10000 : lookupOf s table (request.Ticks 10000) ≡ lookups.Refused (refusal 24 0)
 
+-- The same by seconds: "the leaf found is the one covering the double's exact value times the timescale", which is 1000. A double m / 2^k is
+-- written `fin false m (negsuc (k - 1))`, m odd; its neighbours are those next to it among all doubles.
+pub record SecondsLookedUp (s : State) (table : List ℕ) : Type 0 where
+  pub below-5 : lookupOf s table (request.Seconds (fin false 5629499534213119 (negsuc 49))) ≡ lookups.Refused (refusal 23 0)
+  pub at-5 : lookupOf s table (request.Seconds (fin false 5 (pos 0))) ≡ lookups.Found 1 (recordOf firstOfS)
+  pub below-7 : lookupOf s table (request.Seconds (fin false 7881299347898367 (negsuc 49))) ≡ lookups.Found 1 (recordOf firstOfS)
+  pub at-7 : lookupOf s table (request.Seconds (fin false 7 (pos 0))) ≡ lookups.Found 2 (recordOf secondOfS)
+  pub below-10 : lookupOf s table (request.Seconds (fin false 5629499534213119 (negsuc 48))) ≡ lookups.Found 2 (recordOf secondOfS)
+  pub at-10 : lookupOf s table (request.Seconds (fin false 5 (pos 1))) ≡ lookups.Refused (refusal 24 0)
+  -- "Negative zero is zero": here it lies before the list
+  pub negative-zero : lookupOf s table (request.Seconds (fin true 0 (pos 0))) ≡ lookups.Refused (refusal 23 0)
+  -- "A value past the end, however large, gives 24": the largest double
+  pub largest : lookupOf s table (request.Seconds (fin false 9007199254740991 (pos 971))) ≡ lookups.Refused (refusal 24 0)
+  -- "26 for not a number, either infinity, or a value below zero": the smallest subnormal among them
+  pub not-a-number : lookupOf s table (request.Seconds nan) ≡ lookups.Refused (refusal 26 0)
+  pub infinities : (sign : Bool) → lookupOf s table (request.Seconds (inf sign)) ≡ lookups.Refused (refusal 26 0)
+  pub below-zero : lookupOf s table (request.Seconds (fin true 1 (negsuc 1073))) ≡ lookups.Refused (refusal 26 0)
+
 -- S is accepted, and looked up with the state that is left: in the table that is left, and in any that starts with S's records, one of
 -- nothing but these twelve numbers too.
 pub record LookupInS : Type 0 where
@@ -107,3 +128,34 @@ pub record LookupInS : Type 0 where
   pub records : recordsOf leavesOfS ≡ 76 ∷ 60 ∷ 5000 ∷ 2000 ∷ 2415919104 ∷ 100 ∷ 136 ∷ 60 ∷ 7000 ∷ 3000 ∷ 2415919104 ∷ 2100 ∷ []
   pub in-left : LookedUp (byBytes S .state) (byBytes S .table)
   pub in-any : (behind : List ℕ) → LookedUp (byBytes S .state) (recordsOf leavesOfS ++ behind)
+
+-- and by seconds
+pub record SecondsInS : Type 0 where
+  pub accepts : IsAccepted S 196 leavesOfS workS
+  pub in-left : SecondsLookedUp (byBytes S .state) (byBytes S .table)
+  pub in-any : (behind : List ℕ) → SecondsLookedUp (byBytes S .state) (recordsOf leavesOfS ++ behind)
+
+-- 11.666666666666666, the double nearest to 7000 / 600: a little below
+abbrev pub nearSeven : Float
+nearSeven = fin false 6567749456581973 (negsuc 48)
+
+-- 600 and 7000 as doubles: 75 · 2^3 and 875 · 2^3
+abbrev pub double600 : Float
+double600 = fin false 75 (pos 3)
+
+abbrev pub double7000 : Float
+double7000 = fin false 875 (pos 3)
+
+-- the accepted state of S with another timescale
+abbrev pub scaledState : ℕ → State
+scaledState scale = state.Accepted 196 2 (record { id = 1; scale = scale; start = 5000; durations = 5000 })
+
+-- "rounding the product first is wrong near a leaf's edge": S with timescale 600, and these seconds. Their product with 600 is below 7000, where
+-- leaf 2 starts, so that leaf 1 covers them. Rounded to a double it is 7000, which leaf 2 covers.
+pub record RoundingMisses : Type 0 where
+  pub held : fits binary64 nearSeven ≡ true
+  pub rounded : mul binary64 nearSeven double600 ≡ double7000
+  pub tree : byTree (sScaled 600) ≡ some leavesOfS
+  pub fed : byBytes (sScaled 600) ≡ out (finishes.Listed 2) (scaledState 600) workS (tableWith leavesOfS)
+  pub exact : lookupOf (byBytes (sScaled 600) .state) (byBytes (sScaled 600) .table) (request.Seconds nearSeven) ≡ lookups.Found 1 (recordOf firstOfS)
+  pub of-rounded : lookupOf (byBytes (sScaled 600) .state) (byBytes (sScaled 600) .table) (request.Ticks 7000) ≡ lookups.Found 2 (recordOf secondOfS)
