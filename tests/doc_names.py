@@ -1,5 +1,5 @@
 #!/usr/bin/env python3
-"""Each name in README.md and docs/*.md exists.
+"""Each name in README.md and docs/**/*.md exists.
 
 A word in backquotes has to be the name of a crate, a path, an edit, a module, what an .antt file declares, or what an .rt file
 declares; `a::b` is what crate or module `a` declares. Other words are listed in tests/doc_words.txt, and each of these is used.
@@ -18,7 +18,7 @@ import re
 import sys
 
 ROOT = pathlib.Path(__file__).resolve().parent.parent
-DOCS = [ROOT / "README.md", *sorted((ROOT / "docs").glob("*.md"))]
+DOCS = [ROOT / "README.md", *sorted((ROOT / "docs").glob("**/*.md"))]
 WORD = re.compile(r"`([^`\n]+)`")
 LIST = r"`[^`\n]+`(?:(?:, | and )`[^`\n]+`)*"
 PLACED = re.compile(rf"`([a-z_]+)`, (?:specs )?`([A-Z]\w*)`, ({LIST})")

@@ -1,6 +1,6 @@
--- Rule 7 at the edges of a record: its start is covered, its end is not. And the order of the checks of a lookup.
+-- Rule 7 at the edges of a record: its start is covered, its end is not; only whole ticks matter to a leaf. And the order of a lookup's checks.
 use Prim.Native.Nat.{ℕ, _+_, _*_, _/_, _≤_, _<_}
-use mathlib.Core.Path.{_≡_, refl, sym, ap, _∙_}
+use mathlib.Core.Path.{_≡_, refl, ap, _∙_}
 use mathlib.Core.List.{List}
 use mathlib.Core.Option.{Option, none}
 use mathlib.Core.Bool.{Bool, true, false, _&&_}
@@ -61,7 +61,7 @@ empty-covers-nothing r t empty = at (recordCovers r t) refl
 
 -- Only the whole part of a time matters: a leaf covers the time exactly where it covers that tick.
 pub covers-whole : (l : Leaf) (t : Moment) → 0 < t .under → leafCovers t l ≡ covers (whole t) l
-unfolding leafCovers covers pick
+unfolding recordCovers covers pick
 covers-whole l t some' =
     ap (λ (c : Bool). c && before t (l .start + l .duration)) (reaches-whole t some' (l .start))
     ∙ ap (λ (c : Bool). leb (l .start) (whole t) && c) (before-whole t some' (l .start + l .duration))

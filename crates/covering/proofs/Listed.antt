@@ -22,11 +22,6 @@ use Rattle.table.specs.Table.{recordAt, numbersOf, recordNumbers}
 use Rattle.covering.specs.Records.{recordOf, recordsOf, leafCovers, NoLeafCovers, outsideNumber}
 use Rattle.covering.proofs.Covering.{Lowest, covering-lowest, lowest-covering, none-covers, covers-none}
 
--- a leaf and its record cover the same times
-covers-alike : (l : Leaf) (t : Moment) → recordCovers (recordOf l) t ≡ leafCovers t l
-unfolding recordCovers leafCovers
-covers-alike l t = refl
-
 skip-numbers : (l : Leaf) (more : List ℕ) (i k : ℕ) → getD (numbersOf (recordOf l) ++ more) (recordNumbers * suc i + k) 0 ≡ getD more (recordNumbers * i + k) 0
 skip-numbers l more i k =
     let six : recordNumbers * suc i + k ≡ suc (suc (suc (suc (suc (suc (recordNumbers * i + k)))))) = omega arith in
@@ -58,7 +53,7 @@ below-at (b ∷ bs) (suc i) h = below-at bs i (omega arith)
 
 -- whether the i-th record covers is whether the i-th leaf does
 covers-at : (ls : List Leaf) (rest : List ℕ) (t : Moment) (i : ℕ) (l : Leaf) → At ls i l → recordCovers (recordAt (recordsOf ls ++ rest) i) t ≡ leafCovers t l
-covers-at ls rest t i l h = ap (λ (r : Record). recordCovers r t) (record-of-leaf ls rest i l h) ∙ covers-alike l t
+covers-at ls rest t i l h = ap (λ (r : Record). recordCovers r t) (record-of-leaf ls rest i l h)
 
 -- The i-th leaf covers the time and no earlier one does: it is found, as number i + 1, with its record.
 pub found-exact : (ls : List Leaf) (rest : List ℕ) (t : Moment) (i : ℕ) (l : Leaf) → At ls i l → leafCovers t l ≡ true → ((j : ℕ) (m : Leaf) → j < i → At ls j m → leafCovers t m ≡ false) →

@@ -49,15 +49,15 @@ module _ (t : Moment) (some' : 0 < t .under) (a : ℕ) where
 
 module _ (ls : List Leaf) (from to : ℕ) (follow : Follow from ls to) (t : Moment) (some' : 0 < t .under) where
   -- a leaf that covers a time covers its whole part
-  covers-tick : (l : Leaf) → leafCovers t l ≡ true → covers (whole t) l ≡ true
-  covers-tick l e = sym (covers-whole l t some') ∙ e
+  covers-its-whole : (l : Leaf) → leafCovers t l ≡ true → covers (whole t) l ≡ true
+  covers-its-whole l e = sym (covers-whole l t some') ∙ e
 
   -- two leaves that cover a time are the same leaf
   pub one-covers : (i j : ℕ) (l m : Leaf) → At ls i l → At ls j m → leafCovers t l ≡ true → leafCovers t m ≡ true → i ≡ j
   one-covers i j l m at at' here here' =
-      let (low, high) = follow-within ls from to follow (whole t) i l at (covers-tick l here) in
+      let (low, high) = follow-within ls from to follow (whole t) i l at (covers-its-whole l here) in
       let one = follow-tick ls from to follow (whole t) low high in
-      one .only i l at (covers-tick l here) ∙ sym (one .only j m at' (covers-tick m here'))
+      one .only i l at (covers-its-whole l here) ∙ sym (one .only j m at' (covers-its-whole m here'))
 
   -- a leaf that covers a time is the answer to it
   pub follow-found : (rest : List ℕ) (i : ℕ) (l : Leaf) → At ls i l → leafCovers t l ≡ true → lookIn (length ls) (recordsOf ls ++ rest) t ≡ answer.Found (suc i) (recordOf l)
@@ -70,7 +70,7 @@ module _ (ls : List Leaf) (from to : ℕ) (follow : Follow from ls to) (t : Mome
   -- a time within the span of the leaves is covered by exactly one of them
   pub follow-moment : reaches t from ≡ true → before t to ≡ true → One (λ l. leafCovers t l ≡ true) ls
   follow-moment low high =
-      one-alike (λ l. covers (whole t) l ≡ true) (λ l. leafCovers t l ≡ true) ls (λ l e. covers-whole l t some' ∙ e) (λ l e. covers-tick l e)
+      one-alike (λ l. covers (whole t) l ≡ true) (λ l. leafCovers t l ≡ true) ls (λ l e. covers-whole l t some' ∙ e) (λ l e. covers-its-whole l e)
       (follow-tick ls from to follow (whole t) (whole-from t some' from low) (whole-below t some' to high))
 
   -- and answered with that leaf
@@ -86,8 +86,8 @@ module _ (ls : List Leaf) (from to : ℕ) (follow : Follow from ls to) (t : Mome
     where
       at : (whole t < from) ⊎ (to ≤ whole t) → (c : Bool) → leafCovers t l ≡ c → c ≡ false
       at o false e = refl
-      at (inl before') true e = let (low, high) = follow-within ls from to follow (whole t) i l there (covers-tick l e) in absurd (omega arith)
-      at (inr past) true e = let (low, high) = follow-within ls from to follow (whole t) i l there (covers-tick l e) in absurd (omega arith)
+      at (inl before') true e = let (low, high) = follow-within ls from to follow (whole t) i l there (covers-its-whole l e) in absurd (omega arith)
+      at (inr past) true e = let (low, high) = follow-within ls from to follow (whole t) i l there (covers-its-whole l e) in absurd (omega arith)
 
 before-number : (ls : List Leaf) (from to : ℕ) (t : Moment) → 0 < t .under → Follow from ls to → 0 < length ls → whole t < from → outsideNumber ls t ≡ 23
 unfolding outsideNumber
@@ -121,7 +121,8 @@ follow-past ls from to follow rest t some' past =
     refused-exact ls rest t (outside-uncovered ls from to follow t some' (inr high)) ∙ ap (λ (n : ℕ). answer.Refused (refusal n 0)) (past-number ls from to t some' follow high)
 
 -- The leaves of an accepted segment, in a table that starts with their records, and any time.
-module _ (brand : ℕ) (xs : List ℕ) (ls : List Leaf) (top : Opened) (accepted : segment brand xs ≡ some ls) (opened : topIndex brand xs ≡ some top) (rest : List ℕ) (t : Moment) (some' : 0 < t .under) where
+module _ (brand : ℕ) (xs : List ℕ) (ls : List Leaf) (top : Opened) (accepted : segment brand xs ≡ some ls) (opened : topIndex brand xs ≡ some top) (rest : List ℕ)
+    (t : Moment) (some' : 0 < t .under) where
   -- within the span of the top index: the one leaf that covers the time
   pub segment-found : reaches t (top .index .time) ≡ true → before t (top .index .time + durations (top .index .entries)) ≡ true →
       (one : One (λ l. leafCovers t l ≡ true) ls) × (lookIn (length ls) (recordsOf ls ++ rest) t ≡ answer.Found (suc (one .place)) (recordOf (one .item)))

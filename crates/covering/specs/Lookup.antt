@@ -40,18 +40,21 @@ found leaves table t (some i) = answer.Found (suc i) (recordAt table i)
 abbrev pub lookIn : ℕ → List ℕ → Moment → LookupAnswer
 lookIn leaves table t = found leaves table t (coveringFrom leaves 0 table t)
 
--- row 26: the seconds are no time
+-- row 26, request A1: the seconds are no time
 unfoldable pub lookAt : ℕ → List ℕ → Option Moment → LookupAnswer
 lookAt leaves table none = answer.Refused (refusal 26 0)
 lookAt leaves table (some t) = lookIn leaves table t
 
--- row 22: lookup without an accepted finish; row 25: table shorter than six numbers a leaf
+-- row 25: table shorter than six numbers a leaf
+abbrev pub lookAmong : ℕ → List ℕ → Option Moment → LookupAnswer
+lookAmong leaves table t = pick (ltb (length table) (recordNumbers * leaves)) (answer.Refused (refusal 25 0)) (lookAt leaves table t)
+
+-- row 22: lookup without an accepted finish
 unfoldable pub lookupState : State → List ℕ → Request → LookupAnswer
 lookupState (state.Reading n leaves now last s) table r = answer.Refused (refusal 22 0)
 lookupState (state.Ended n leaves top) table r = answer.Refused (refusal 22 0)
 lookupState (state.Refused n leaves x) table r = answer.Refused (refusal 22 0)
-lookupState (state.Accepted n leaves top) table r =
-    pick (ltb (length table) (recordNumbers * leaves)) (answer.Refused (refusal 25 0)) (lookAt leaves table (momentOf r (top .scale)))
+lookupState (state.Accepted n leaves top) table r = lookAmong leaves table (momentOf r (top .scale))
 
 -- "Lookup checks 2, 22, 25", then 26, "then gives the lowest-numbered record covering t"
 unfoldable pub lookupOf : State → List ℕ → Request → LookupAnswer

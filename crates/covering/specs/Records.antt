@@ -1,14 +1,15 @@
--- The leaves of a segment as they stand in the leaf table, and the number of a refusal where none of them covers a time.
-use Prim.Native.Nat.{ℕ, _+_}
+-- The leaves of a segment as they stand in the leaf table, whether one covers a time, and the number of a refusal where none does.
+use Prim.Native.Nat.{ℕ}
 use mathlib.Core.Path.{_≡_}
 use mathlib.Core.List.{List, [], _∷_, _++_}
-use mathlib.Core.Bool.{Bool, false, _&&_}
+use mathlib.Core.Bool.{Bool, false}
 use Rattle.basics.specs.Choose.{pick}
 use Rattle.segment.specs.Tree.{Leaf}
 use Rattle.segment.specs.Parts.{At}
 use Rattle.table.specs.declared.Record.{Record}
 use Rattle.table.specs.Table.{numbersOf}
-use Rattle.moment.specs.Moments.{Moment, reaches, before}
+use Rattle.moment.specs.Moments.{Moment, before}
+use Rattle.covering.specs.Lookup.{recordCovers}
 
 -- the record of a leaf
 abbrev pub recordOf : Leaf → Record
@@ -19,9 +20,9 @@ unfoldable pub recordsOf : List Leaf → List ℕ
 recordsOf [] = []
 recordsOf (l ∷ ls) = numbersOf (recordOf l) ++ recordsOf ls
 
--- rule 7, of a time that need not be whole: start ≤ t < start + duration
-unfoldable pub leafCovers : Moment → Leaf → Bool
-leafCovers t l = reaches t (l .start) && before t (l .start + l .duration)
+-- rule 7, of a time that need not be whole: a leaf covers what its record covers
+abbrev pub leafCovers : Moment → Leaf → Bool
+leafCovers t l = recordCovers (recordOf l) t
 
 -- none of the leaves covers t
 abbrev pub NoLeafCovers : List Leaf → Moment → Type 0

@@ -8,18 +8,19 @@ const INFINITE: u64 = 9218868437227405312;
 // What a sign adds to the bits.
 const SIGN: u64 = 9223372036854775808;
 
-// The language has one not-a-number, and no bits for it: it is made by arithmetic, with a sign or without.
-fn not_a_number(signed: bool) -> f64
+// The language has one not-a-number, without sign or bits: it is made by arithmetic. The two that are made have opposite signs in the
+// machine; which has which is open.
+fn not_a_number(opposite: bool) -> f64
     ensures { λ r. ⌜ r ≡ nan ⌝ }
 {
     let none: f64 = 0.0 / 0.0;
-    if signed {
+    if opposite {
         return -none;
     }
     none
 }
 
-// Of a not-a-number's bits all but the sign are lost: no answer hangs on them.
+// Of a not-a-number's bits none are kept: no answer hangs on them.
 pub fn double_of(bits: u64) -> f64
     ensures { λ r. ⌜ r ≡ ofBits binary64 bits ⌝ }
 {

@@ -26,14 +26,13 @@ use Rattle.seconds.specs.Ticks.{ticksAt, ticksOf}
 use Rattle.seconds.proofs.Laws.{Told, ticks-told}
 use Rattle.covering.specs.declared.LookupAnswer.{LookupAnswer}
 use Rattle.covering.specs.declared.LookupAnswer.the-variants as answer
-use Rattle.covering.specs.Lookup.{recordCovers, found, lookIn, lookAt}
+use Rattle.covering.specs.Lookup.{recordCovers, found, lookIn, lookAt, lookAmong}
 use Rattle.covering.proofs.Covering.{covers-none}
 use Rattle.covering.proofs.Wholes.{only-whole}
-use Rattle.lookup.specs.Spots.{lookAmong}
-use Rattle.lookup.proofs.Passing.{from-start, outside-past}
+use Rattle.lookup.proofs.Passing.{past-end, outside-past}
 
 -- an answer is what a time gets whose whole ticks are told so
-abbrev Answers : ℕ → List ℕ → LookupAnswer → Ticks → Type 0
+abbrev pub Answers : ℕ → List ℕ → LookupAnswer → Ticks → Type 0
 Answers leaves table a (ticks.At t) = lookIn leaves table (tick t) ≡ a
 Answers leaves table a (ticks.Beyond t) = lookIn leaves table (tick (2 ^ 64 + t)) ≡ a
 Answers leaves table a ticks.Past = answer.Refused (refusal 24 0) ≡ a
@@ -45,7 +44,7 @@ unfolding recordAt
 past-record table w i small far =
     let start = small (recordNumbers * i + 2) in
     let duration = small (recordNumbers * i + 3) in
-    from-start (recordAt table i) w (omega arith) ∙ le-ltb w (recordAt table i .start + recordAt table i .duration) (omega arith)
+    past-end (recordAt table i) w (omega arith) (omega arith)
 
 past-all : (leaves : ℕ) (table : List ℕ) (w : ℕ) → ((k : ℕ) → getD table k 0 < 2 ^ 64) → 2 ^ 65 ≤ w → lookIn leaves table (tick w) ≡ answer.Refused (refusal 24 0)
 unfolding found

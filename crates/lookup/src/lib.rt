@@ -8,9 +8,9 @@ ghost use Rattle.table.specs.Table.{mostRecords, recordNumbers, recordAt};
 ghost use Rattle.moment.specs.Moments.{tick, momentOf};
 ghost use Rattle.state.specs.declared.State.the-variants as state;
 ghost use Rattle.state.specs.Ranges.{inRange};
-ghost use Rattle.covering.specs.Lookup.{recordCovers, outside, lookIn, lookupOf};
+ghost use Rattle.covering.specs.Lookup.{recordCovers, outside, lookIn, lookAmong, lookupOf};
 ghost use Rattle.covering.specs.declared.LookupAnswer.the-variants as answer;
-ghost use Rattle.lookup.specs.Spots.{Spots, lookAmong};
+ghost use Rattle.lookup.specs.Spots.{Spots};
 use covering::LookupAnswer;
 use machine::Refusal;
 use moment::Request;
@@ -66,7 +66,8 @@ fn covers_at(table: &[u64], i: usize, t: u64) -> bool
     false
 }
 
-// Whether record i covers 2^64 + t: it starts before, and its end has to be farther beyond 2^64.
+// Whether record i covers 2^64 + t. It starts before that, so its end has to lie farther past 2^64 than t. The end is not computed, since
+// it does not fit.
 fn covers_beyond(table: &[u64], i: usize, t: u64) -> bool
     requires { ⌜ recordNumbers * i + recordNumbers ≤ length (now table) ⌝ }
     ensures { λ r. ⌜ r ≡ recordCovers (recordAt (now (table .entry)) i) (tick (2 ^ 64 + t)) ⌝ }
@@ -109,7 +110,8 @@ fn look_in(leaves: usize, table: &[u64], t: u64) -> Spot
     Spot::Refused(outside_list(leaves, table, t))
 }
 
-// The same of 2^64 + t, before which each leaf starts. Only a table that no reading left has a record that reaches so far.
+// The same of 2^64 + t. Every record starts before it, so where none covers it, it is past the list. Only a table that no reading left has
+// a record that reaches so far.
 fn look_beyond(leaves: usize, table: &[u64], t: u64) -> Spot
     requires { ⌜ recordNumbers * leaves ≤ length (now table) ⌝ }
     ensures { λ r. ⌜ Spots (now (table .entry)) (lookIn leaves (now (table .entry)) (tick (2 ^ 64 + t))) r ⌝ }
@@ -124,7 +126,7 @@ fn look_beyond(leaves: usize, table: &[u64], t: u64) -> Spot
     Spot::Refused(PAST)
 }
 
-// A leaf covers a time exactly where it covers its whole ticks, since it starts and ends at one.
+// A leaf starts and ends at a tick, so it covers a time exactly where it covers the time's whole ticks.
 fn look_among(leaves: u64, scale: u64, table: &[u64], request: Request) -> Spot
     requires { ⌜ leaves ≤ mostRecords ⌝ ∗ ⌜ 0 < scale ⌝ ∗ ⌜ scale < 2 ^ 32 ⌝ }
     ensures { λ r. ⌜ Spots (now (table .entry)) (lookAmong leaves (now (table .entry)) (momentOf request scale)) r ⌝ }
@@ -142,7 +144,7 @@ fn look_among(leaves: u64, scale: u64, table: &[u64], request: Request) -> Spot
     }
 }
 
-// With the numbers of an accepted state.
+// The spot that an accepted state gives, from its numbers.
 fn look_accepted(count: u64, leaves: u64, top: Top, table: &[u64], request: Request) -> Spot
     ensures { λ r. ⌜ Spots (now (table .entry)) (lookupOf (state.Accepted count leaves top) (now (table .entry)) request) r ⌝ }
 {
@@ -152,7 +154,7 @@ fn look_accepted(count: u64, leaves: u64, top: Top, table: &[u64], request: Requ
     Spot::Refused(OUT_OF_RANGE)
 }
 
-// With any other state: the number that refuses it.
+// The number that refuses a state that is not accepted: 2, then 22.
 fn not_accepted(s: State) -> u64
     ensures { λ r. ⌜ answer.Refused (refusal r 0) ≡ pick (inRange s) (answer.Refused (refusal 22 0)) (answer.Refused (refusal 2 0)) ⌝ }
 {
@@ -162,7 +164,7 @@ fn not_accepted(s: State) -> u64
     OUT_OF_RANGE
 }
 
-// With a state of either kind.
+// The spot that any state gives.
 fn spot_of(s: State, table: &[u64], request: Request) -> Spot
     ensures { λ r. ⌜ Spots (now (table .entry)) (lookupOf s (now (table .entry)) request) r ⌝ }
 {

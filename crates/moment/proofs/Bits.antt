@@ -2,11 +2,11 @@
 use Prim.Native.Nat.{ℕ, zero, suc, _+_, _-_, _*_, _/_, _%_, _^_, _≤_, _<_}
 use mathlib.Core.Path.{_≡_, refl, sym, ap, _∙_, subst}
 use mathlib.Core.Logic.{_↔_, _≢_, _⊎_, inl, inr}
-use mathlib.Core.Option.{Option, some, none, Option·none-ne-some}
+use mathlib.Core.Option.{Option, none, Option·none-ne-some}
 use mathlib.Core.Bool.{Bool, true, false, cond}
 use native.Mathlib.Omega.{arith}
 use native.Mathlib.Nat.{mul-right-comm, zero-mul, mul-pos}
-use lib.Dec.{leb, eqb}
+use lib.Dec.{eqb}
 use lib.Pow.{pow-pos}
 use lib.Ieee.{Float, nan, inf, fin, binary64, up, down, ofFields, ofBits}
 use lib.Ieee.Fits.{down-pos}
@@ -16,7 +16,8 @@ use Rattle.basics.proofs.Picks.{lt-or-ge}
 use Rattle.moment.specs.Moments.{product, secondsAt}
 use Rattle.moment.specs.Worth.{Worth}
 
--- the weight of the lowest bit of the exponent, the first pattern that is no number, and negative zero
+-- what one more in the exponent adds to the bits, which is also the leading digit that they leave out; the pattern of infinity; that of negative
+-- zero
 abbrev pub hidden : ℕ
 hidden = 4503599627370496
 
@@ -88,19 +89,23 @@ module _ (b scale : ℕ) where
   unfolding ofBits
   signed-fields h = ap (λ (s : Bool). ofFields binary64 s (b % negative / hidden) (b % hidden)) (le-leb negative b h)
 
+  -- the fields, where the exponent is known
+  fields-at : (e : ℕ) → b < negative → b / hidden ≡ e → ofFields binary64 false e (b % hidden) ≡ ofBits binary64 b
+  fields-at e h q = sym (plain-fields h ∙ ap (λ (n : ℕ). ofFields binary64 false n (b % hidden)) q)
+
   -- an exponent of 0: the fraction alone
   pub subnormal-worth : b < hidden → Worth (ofBits binary64 b) (b % hidden) 0 scale
   subnormal-worth h =
       let e : b / hidden ≡ 0 = omega arith in
       worth (ofBits binary64 b) (b % hidden) 0 scale
-      (subst (λ (y : Float). HasValue y false (b % hidden * 2 ^ 0) (2 ^ 1074)) (sym (plain-fields (omega arith) ∙ ap (λ (n : ℕ). ofFields binary64 false n (b % hidden)) e)) (subnormal false (b % hidden)))
+      (subst (λ (y : Float). HasValue y false (b % hidden * 2 ^ 0) (2 ^ 1074)) (fields-at 0 (omega arith) e) (subnormal false (b % hidden)))
 
   -- any other: a leading digit before the fraction
   pub normal-worth : hidden ≤ b → b < infinite → Worth (ofBits binary64 b) (hidden + b % hidden) (b / hidden - 1) scale
   normal-worth h k =
       let e : b / hidden ≡ suc (b / hidden - 1) = omega arith in
       worth (ofBits binary64 b) (hidden + b % hidden) (b / hidden - 1) scale
-      (subst (λ (y : Float). HasValue y false ((hidden + b % hidden) * 2 ^ (b / hidden - 1)) (2 ^ 1074)) (sym (plain-fields (omega arith) ∙ ap (λ (n : ℕ). ofFields binary64 false n (b % hidden)) e))
+      (subst (λ (y : Float). HasValue y false ((hidden + b % hidden) * 2 ^ (b / hidden - 1)) (2 ^ 1074)) (fields-at (suc (b / hidden - 1)) (omega arith) e)
       (normal false (b / hidden - 1) (b % hidden) (λ q. omega arith)))
 
   -- negative zero

@@ -1,5 +1,5 @@
 -- What the definition of a time says, double by double: which are no time, and what the others come to.
-use Prim.Native.Nat.{ℕ, zero, suc, _*_, _^_}
+use Prim.Native.Nat.{ℕ, suc, _*_, _^_}
 use mathlib.Core.Path.{_≡_, refl, ap}
 use mathlib.Core.Option.{some, none}
 use mathlib.Core.Bool.{Bool, true, false}
@@ -7,7 +7,7 @@ use native.Mathlib.Omega.{arith}
 use lib.IntN.{ℤ, pos, negsuc}
 use lib.Ieee.{nan, inf, fin}
 use Rattle.moment.specs.declared.Request.the-variants as request
-use Rattle.moment.specs.Moments.{Moment, tick, secondsAt, momentOf}
+use Rattle.moment.specs.Moments.{tick, secondsAt, momentOf}
 
 -- "26 for not a number, either infinity, or a value below zero"
 pub not-a-number : (scale : ℕ) → secondsAt nan scale ≡ none
@@ -38,6 +38,6 @@ unfolding secondsAt
 parts-of-seconds m k scale = let e : m * 1 ≡ m = omega arith in ap (λ (n : ℕ). some (record { over = n * scale; under = 2 ^ suc k })) e
 
 -- a request in ticks is always a time, whatever the timescale
-pub ticks-asked : (t scale : ℕ) → momentOf (request.Ticks t) scale ≡ some (tick t)
+pub ticks-are-a-time : (t scale : ℕ) → momentOf (request.Ticks t) scale ≡ some (tick t)
 unfolding momentOf
-ticks-asked t scale = refl
+ticks-are-a-time t scale = refl

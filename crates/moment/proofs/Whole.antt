@@ -1,7 +1,7 @@
 -- Only the whole part of a time matters: it reaches a tick, and is before one, exactly as its whole part does and is.
-use Prim.Native.Nat.{ℕ, zero, suc, _*_, _/_, _≤_, _<_}
-use mathlib.Core.Path.{_≡_, refl, sym, ap, _∙_}
-use mathlib.Core.Option.{some, none, Option·some-injective, Option·none-ne-some}
+use Prim.Native.Nat.{ℕ, zero, suc, _*_, _<_}
+use mathlib.Core.Path.{_≡_, refl, ap}
+use mathlib.Core.Option.{some, Option·some-injective, Option·none-ne-some}
 use mathlib.Core.Bool.{Bool, true, false}
 use native.Mathlib.Omega.{arith}
 use native.Mathlib.Nat.{le-div-iff-mul-le, div-lt-iff-lt-mul}

@@ -21,7 +21,7 @@ tick t = record { over = t; under = 1 }
 abbrev pub product : ℕ → ℤ → ℕ → Moment
 product m e scale = record { over = m * up e * scale; under = down e }
 
--- row 26: none for not a number, either infinity, or a value below zero. "Negative zero is zero."
+-- row 26, request A1: "26 for not a number, either infinity, or a value below zero". "Negative zero is zero."
 unfoldable pub secondsAt : Float → ℕ → Option Moment
 secondsAt nan scale = none
 secondsAt (inf s) scale = none

@@ -11,13 +11,16 @@ use lib.ListN.{length, take, drop}
 use borrow.Author.Tests.{le-ltb}
 use Rattle.machine.specs.Faults.{refusal}
 use Rattle.moment.specs.declared.Request.the-variants as request
+use Rattle.moment.specs.Moments.{tick, momentOf}
 use Rattle.state.specs.Calls.{out}
 use Rattle.state.specs.declared.FinishAnswer.the-variants as finishes
 use Rattle.covering.specs.Lookup.{lookupOf}
 use Rattle.covering.specs.Records.{recordOf, recordsOf}
 use Rattle.covering.specs.declared.LookupAnswer.the-variants as lookups
 use Rattle.proved_cases.specs.Segments.{S, sWith, sScaled, T, tWith}
-use Rattle.proved_cases.specs.Cases.{work0, table0, byTree, byBytes, leafAt, tableWith, workS, workT, acceptedState, scaledState, nearSeven, double600, double7000, IsAccepted, IsRefused, firstOfS, secondOfS, leavesOfS, LookedUp, SecondsLookedUp, LookupInS, SecondsInS, RoundingMisses}
+use Rattle.proved_cases.specs.Cases.{work0, table0, byTree, byBytes, byDescent, leafAt, tableWith, workS}
+use Rattle.proved_cases.specs.Cases.{workT, acceptedState, scaledState, belowEdge, double600, double7000, firstOfS, secondOfS, leavesOfS}
+use Rattle.proved_cases.specs.Cases.{IsAccepted, IsRefused, LookedUp, SecondsLookedUp, LookupInS, SecondsInS, RoundingMisses}
 use Rattle.proved_cases.proofs.Computing.{theSegments, theTree, theDescent, theLookup}
 
 -- S: 196 bytes, leaves at 76 and 136.
@@ -84,8 +87,12 @@ scaled-fed : byBytes (sScaled 600) ≡ out (finishes.Listed 2) (scaledState 600)
 unfolding theSegments theDescent theLookup
 scaled-fed = refl
 
+scaled-descended : byDescent (sScaled 600) ≡ out (finishes.Listed 2) (scaledState 600) workS (tableWith leavesOfS)
+unfolding theSegments theDescent theLookup
+scaled-descended = refl
+
 -- the leaves that are found in it
-scaled-exact : lookupOf (scaledState 600) (tableWith leavesOfS) (request.Seconds nearSeven) ≡ lookups.Found 1 (recordOf firstOfS)
+scaled-exact : lookupOf (scaledState 600) (tableWith leavesOfS) (request.Seconds belowEdge) ≡ lookups.Found 1 (recordOf firstOfS)
 unfolding theDescent theLookup
 scaled-exact = refl
 
@@ -93,24 +100,30 @@ scaled-ticks : lookupOf (scaledState 600) (tableWith leavesOfS) (request.Ticks 7
 unfolding theDescent theLookup
 scaled-ticks = refl
 
-near-seven-held : fits binary64 nearSeven ≡ true
+below-edge-held : fits binary64 belowEdge ≡ true
 unfolding fits
-near-seven-held = refl
+below-edge-held = refl
 
 -- the product, rounded to a double
-near-seven-rounded : mul binary64 nearSeven double600 ≡ double7000
+below-edge-rounded : mul binary64 belowEdge double600 ≡ double7000
 unfolding mul
-near-seven-rounded = refl
+below-edge-rounded = refl
+
+edge-ticks : momentOf (request.Seconds double7000) 1 ≡ some (tick 7000)
+unfolding theLookup
+edge-ticks = refl
 
 -- A product that is rounded first gives the wrong leaf.
 pub rounding-misses : RoundingMisses
 rounding-misses =
     record {
-      held = near-seven-held;
-      rounded = near-seven-rounded;
+      held = below-edge-held;
+      rounded = below-edge-rounded;
       tree = scaled-tree;
       fed = scaled-fed;
       exact = rw scaled-fed scaled-exact;
+      descended = scaled-descended;
+      is-7000 = edge-ticks;
       of-rounded = rw scaled-fed scaled-ticks;
     }
 

@@ -19,6 +19,7 @@ use Rattle.state.specs.declared.FinishAnswer.{FinishAnswer}
 use Rattle.state.specs.declared.FinishAnswer.the-variants as finishes
 use Rattle.descent.specs.Whole.{wholeD}
 use Rattle.moment.specs.declared.Request.the-variants as request
+use Rattle.moment.specs.Moments.{tick, momentOf}
 use Rattle.covering.specs.Lookup.{lookupOf}
 use Rattle.covering.specs.Records.{recordOf, recordsOf}
 use Rattle.covering.specs.declared.LookupAnswer.the-variants as lookups
@@ -104,7 +105,7 @@ pub record LookedUp (s : State) (table : List ℕ) : Type 0 where
   pub at-10000 : lookupOf s table (request.Ticks 10000) ≡ lookups.Refused (refusal 24 0)
 
 -- The same by seconds: "the leaf found is the one covering the double's exact value times the timescale", which is 1000. A double m / 2^k is
--- written `fin false m (negsuc (k - 1))`, m odd; its neighbours are those next to it among all doubles.
+-- written `fin false m (negsuc (k - 1))`, m odd; `below-n` is the double next below n.
 pub record SecondsLookedUp (s : State) (table : List ℕ) : Type 0 where
   pub below-5 : lookupOf s table (request.Seconds (fin false 5629499534213119 (negsuc 49))) ≡ lookups.Refused (refusal 23 0)
   pub at-5 : lookupOf s table (request.Seconds (fin false 5 (pos 0))) ≡ lookups.Found 1 (recordOf firstOfS)
@@ -136,8 +137,8 @@ pub record SecondsInS : Type 0 where
   pub in-any : (behind : List ℕ) → SecondsLookedUp (byBytes S .state) (recordsOf leavesOfS ++ behind)
 
 -- 11.666666666666666, the double nearest to 7000 / 600: a little below
-abbrev pub nearSeven : Float
-nearSeven = fin false 6567749456581973 (negsuc 48)
+abbrev pub belowEdge : Float
+belowEdge = fin false 6567749456581973 (negsuc 48)
 
 -- 600 and 7000 as doubles: 75 · 2^3 and 875 · 2^3
 abbrev pub double600 : Float
@@ -153,9 +154,11 @@ scaledState scale = state.Accepted 196 2 (record { id = 1; scale = scale; start 
 -- "rounding the product first is wrong near a leaf's edge": S with timescale 600, and these seconds. Their product with 600 is below 7000, where
 -- leaf 2 starts, so that leaf 1 covers them. Rounded to a double it is 7000, which leaf 2 covers.
 pub record RoundingMisses : Type 0 where
-  pub held : fits binary64 nearSeven ≡ true
-  pub rounded : mul binary64 nearSeven double600 ≡ double7000
+  pub held : fits binary64 belowEdge ≡ true
+  pub rounded : mul binary64 belowEdge double600 ≡ double7000
   pub tree : byTree (sScaled 600) ≡ some leavesOfS
   pub fed : byBytes (sScaled 600) ≡ out (finishes.Listed 2) (scaledState 600) workS (tableWith leavesOfS)
-  pub exact : lookupOf (byBytes (sScaled 600) .state) (byBytes (sScaled 600) .table) (request.Seconds nearSeven) ≡ lookups.Found 1 (recordOf firstOfS)
+  pub exact : lookupOf (byBytes (sScaled 600) .state) (byBytes (sScaled 600) .table) (request.Seconds belowEdge) ≡ lookups.Found 1 (recordOf firstOfS)
+  pub descended : byDescent (sScaled 600) ≡ out (finishes.Listed 2) (scaledState 600) workS (tableWith leavesOfS)
+  pub is-7000 : momentOf (request.Seconds double7000) 1 ≡ some (tick 7000)
   pub of-rounded : lookupOf (byBytes (sScaled 600) .state) (byBytes (sScaled 600) .table) (request.Ticks 7000) ≡ lookups.Found 2 (recordOf secondOfS)

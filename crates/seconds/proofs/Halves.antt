@@ -1,8 +1,9 @@
 -- Laws of numbers in two halves of 64 bits: a product, and one halved so many times.
-use Prim.Native.Nat.{ℕ, zero, suc, _+_, _-_, _*_, _/_, _%_, _^_, _≤_, _<_}
-use mathlib.Core.Path.{_≡_, refl, sym, ap, _∙_}
+use Prim.Native.Nat.{ℕ, _+_, _-_, _*_, _/_, _%_, _^_, _≤_, _<_}
+use mathlib.Core.Path.{_≡_, sym, ap, _∙_}
 use native.Mathlib.Omega.{arith}
-use native.Mathlib.Nat.{mul-right-comm, mul-assoc, mul-comm, add-mul, mul-le-mul, mul-le-mul-right, div-eq-of-lt, div-div-eq-div-mul, div-lt-iff-lt-mul, mul-add-div-right, mul-div-mul-right, div-add-mod', mod-lt, sub-add-cancel, zero-add}
+use native.Mathlib.Nat.{zero-add, mul-right-comm, mul-assoc, mul-comm, add-mul, mul-le-mul-right, sub-add-cancel}
+use native.Mathlib.Nat.{div-eq-of-lt, div-div-eq-div-mul, div-lt-iff-lt-mul, mul-add-div-right, mul-div-mul-right, div-add-mod', mod-lt}
 use lib.Pow.{pow-pos, pow-add, pow-mono}
 
 -- a product by halves of 32 bits

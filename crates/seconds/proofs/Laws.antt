@@ -1,10 +1,10 @@
 -- Laws of the whole ticks of seconds: by a double's parts, and as a lookup tells them apart.
-use Prim.Native.Nat.{ℕ, zero, suc, _+_, _-_, _*_, _/_, _%_, _^_, _≤_, _<_}
+use Prim.Native.Nat.{ℕ, _+_, _-_, _*_, _/_, _%_, _^_, _≤_, _<_}
 use mathlib.Core.Path.{_≡_, refl, sym, ap, _∙_, subst}
 use mathlib.Core.Bool.{Bool, true, false, not}
-use mathlib.Core.Option.{some, none}
+use mathlib.Core.Option.{none}
 use native.Mathlib.Omega.{arith}
-use native.Mathlib.Nat.{mul-right-comm, mul-assoc, mul-comm, mul-le-mul, mul-le-mul-right, le-div-iff-mul-le, le-of-mul-le-mul-right, eq-of-mul-eq-mul-right}
+use native.Mathlib.Nat.{mul-right-comm, mul-assoc, mul-le-mul, mul-le-mul-right, le-div-iff-mul-le, le-of-mul-le-mul-right, eq-of-mul-eq-mul-right}
 use lib.Dec.{T, ltb}
 use lib.Pow.{pow-pos, pow-add, pow-mono}
 use lib.Ieee.{Float, nan, inf, fin, binary64, ofBits, toBits, fits, isNan, ne, eq}

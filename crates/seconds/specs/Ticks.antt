@@ -1,5 +1,5 @@
 -- What the code makes of seconds: a double's parts, a number in two halves, and the whole part of a time, as far as a lookup tells it apart.
-use Prim.Native.Nat.{ℕ, _+_, _-_, _*_, _/_, _^_, _≤_, _<_}
+use Prim.Native.Nat.{ℕ, _+_, _-_, _*_, _^_, _≤_, _<_}
 use mathlib.Core.Path.{_≡_}
 use mathlib.Core.Option.{Option, some, none}
 use lib.Dec.{ltb}
@@ -20,6 +20,7 @@ pub record Exact (x : Float) (p : Parts) : Type 0 where
   pub small : p .digits < 2 ^ 53
   pub leading : 0 < p .power → 2 ^ 52 ≤ p .digits
 
+-- what an answer says of x: its parts, or that it is no time, whatever the timescale
 unfoldable pub Splits : Float → Split → Type 0
 Splits x (split.Value p) = Exact x p
 Splits x split.NoTime = (scale : ℕ) → secondsAt x scale ≡ none

@@ -1,26 +1,26 @@
-// The time that is asked for, in whole ticks: of seconds held as a double exactly, from its bits. Only whole ticks matter to a lookup,
-// since a leaf starts and ends at one.
+// The whole ticks of the time that is asked for; those of seconds are worked out exactly, from the double's bits. Only whole ticks matter
+// to a lookup, since a leaf starts and ends at a tick.
 ghost use mathlib.Core.Path.{_≡_};
-ghost use Prim.Native.Nat.{_+_, _*_, _/_, _^_, _<_, _≤_};
+ghost use Prim.Native.Nat.{_+_, _*_, _/_, _^_, _<_};
 ghost use Rattle.moment.specs.Moments.{secondsAt, momentOf};
 ghost use Rattle.seconds.specs.Ticks.{Splits, wide, ticksAt, ticksOf};
 use moment::Request;
 
 // A value is digits * 2^power / 2^1074 seconds.
-pub struct Parts {
-    pub digits: u64,
-    pub power: u64,
+struct Parts {
+    digits: u64,
+    power: u64,
 }
 
-pub enum Split {
+enum Split {
     Value(Parts),
     NoTime,
 }
 
 // A number of up to 128 bits: high * 2^64 + low.
-pub struct Wide {
-    pub high: u64,
-    pub low: u64,
+struct Wide {
+    high: u64,
+    low: u64,
 }
 
 // Whole ticks: so many; 2^64 and so many; 2^65 or more, which no record reaches; or none, since the seconds are no time.
@@ -43,7 +43,7 @@ const INFINITE: u64 = 9218868437227405312;
 // The bits of negative zero.
 const NEGATIVE_ZERO: u64 = 9223372036854775808;
 
-// From the next power on, the lowest digits alone are 2^13 seconds, and the leading one is 2^65: past all records.
+// From the next power on, the lowest digit of a value is 2^13 seconds and its leading one 2^65, which is past all records.
 const MOST_POWER: u64 = 1086;
 
 // Exponent and fraction. A not-a-number is told before its bits are asked for, since it may have any of several.
@@ -77,8 +77,8 @@ fn parts_of(x: f64) -> Split
     })
 }
 
-// digits * scale * 2^12, of up to 97 bits: so much as the highest power that is not past all records, so that every other one is a shift
-// to the right.
+// digits * scale * 2^12, of up to 97 bits. The highest power that is not past all records makes the lowest digit 2^12 seconds: with so much
+// put in at once, any other power is a shift to the right.
 fn product(digits: u64, scale: u64) -> Wide
     requires { ⌜ digits < 2 ^ 53 ⌝ ∗ ⌜ scale < 2 ^ 32 ⌝ }
     ensures { λ r. ⌜ wide r ≡ digits * scale * 4096 ⌝ }

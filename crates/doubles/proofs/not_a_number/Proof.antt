@@ -1,4 +1,4 @@
--- `doubles::not_a_number` meets its contract: zero by zero is not a number, and neither is what is opposite to it.
+-- `doubles::not_a_number` meets its contract, by the definitions of `div`, `neg` and `ofBits`: zero by zero is not a number, nor is its opposite.
 use mathlib.Core.Path.{refl}
 use lib.Ieee.{div, neg, ofBits}
 use Rattle.doubles.proofs.not_a_number.Statement.{statement}

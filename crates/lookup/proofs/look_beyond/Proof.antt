@@ -1,4 +1,5 @@
--- `lookup::look_beyond` meets its contract, as `look_in` does. No leaf starts after 2^64 ticks, since a start has 64 bits.
+-- `lookup::look_beyond` meets its contract, by that of `covers_beyond`, by the laws of a turn (`Turns`), and by `outside-past`: no record starts at
+-- 2^64 ticks or later, since a start has 64 bits.
 use Prim.Native.Nat.{_+_, _-_, _^_, _≤_}
 use mathlib.Core.Path.{sym, _∙_}
 use native.Mathlib.Omega.{arith}

@@ -1,4 +1,4 @@
--- `lookup::look_in` meets its contract. The loop's invariant: what the records from the i-th on come to is what all come to.
+-- `lookup::look_in` meets its contract, by those of `covers_at` and `outside_list`, and by the laws of a turn (`Turns`).
 use Prim.Native.Nat.{_-_, _≤_}
 use mathlib.Core.Path.{sym, _∙_}
 use native.Mathlib.Omega.{arith}

@@ -1,8 +1,7 @@
--- `seconds::lowered` meets its contract, by the laws of a number in two halves.
-use mathlib.Core.Path.{sym, ap}
+-- `seconds::lowered` meets its contract, by the laws `lowered-out`, `lowered-half`, `lowered-both` and `lowered-fits`, and where k is 0 by `div-one`.
+use mathlib.Core.Path.{sym}
 use native.Mathlib.Omega.{arith}
 use native.Mathlib.Nat.{div-one}
-use Prim.Native.Nat.{ℕ, _/_, _^_}
 use Rattle.seconds.specs.Ticks.{wide}
 use Rattle.seconds.proofs.Halves.{lowered-half, lowered-out, lowered-both, lowered-fits}
 use borrow.Author.Needs.{needs}

@@ -1,4 +1,5 @@
--- `seconds::parts_of` meets its contract: each way out is one of the cases of a double's bits.
+-- `seconds::parts_of` meets its contract, by the laws `a-number`, `no-number`, `split-zero`, `split-none`, `split-subnormal` and `split-normal`: one for
+-- each way out.
 use Rattle.seconds.proofs.Laws.{a-number, no-number, split-zero, split-none, split-subnormal, split-normal}
 use borrow.Author.Needs.{needs}
 use Rattle.seconds.proofs.parts_of.Statement.{statement}

@@ -1,5 +1,5 @@
--- `seconds::whole_ticks` meets its contract, by those of the four functions that it calls, and by the laws `no-ticks`, `ticks-far` and
--- `ticks-lowered` of a double's parts.
+-- `seconds::whole_ticks` meets its contract, by those of the four functions that it calls, and by the laws `no-parts`, `the-parts`, `no-ticks`,
+-- `ticks-far` and `ticks-lowered` of a double's parts.
 use Prim.Native.Nat.{ℕ, _-_, _/_, _^_}
 use mathlib.Core.Path.{ap, _∙_}
 use native.Mathlib.Omega.{arith}
