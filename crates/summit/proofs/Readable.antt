@@ -13,8 +13,10 @@ use Rattle.state.specs.declared.FeedAnswer.{FeedAnswer}
 use Rattle.state.specs.Calls.{Out, startOf, finishOf}
 use Rattle.state.specs.Cutting.{Held, held, heldAfter, feedHeld, feedAll, joined}
 use Rattle.covering.specs.Lookup.{lookupOf}
+use Rattle.marks.specs.declared.Mark.{Mark}
+use Rattle.marks.specs.Marks.{resolveOf}
 use Rattle.demands.specs.Demands.{inParts}
-use Rattle.summit.specs.Contracts.{StartCall, FeedCall, FinishCall, LookupCall, pieceOf, InOrder, SegmentRead, requestOf, tableLent}
+use Rattle.summit.specs.Contracts.{StartCall, FeedCall, FinishCall, LookupCall, pieceOf, InOrder, SegmentRead, requestOf, tableLent, ResolveCall, markOf, tableOf}
 
 -- anything lent, wherever it stands
 lent : {X : Type 0} → X → RefT X
@@ -61,6 +63,12 @@ module _ (κs : Lfts 3) where
   unfolding lent
   looking s table r =
       (record { lifetimes = (κs .0, tt); given = (s, (lent table, (r, tt))); result = lookupOf s table r; left = (tt, (tt, (tt, tt))); promised = λ met. refl }, refl, refl, refl)
+
+  -- a mark resolved, likewise
+  pub resolving : (s : State) (table : List ℕ) (m : Mark) → (c : ResolveCall) × (c .given .0 ≡ s) × (tableOf c ≡ table) × (markOf c ≡ m)
+  unfolding lent
+  resolving s table m =
+      (record { lifetimes = (κs .0, tt); given = (s, (lent table, (m, tt))); result = resolveOf s table m; left = (tt, (tt, (tt, tt))); promised = λ met. refl }, refl, refl, refl)
 
   -- A segment is read, whatever its bytes and however they are cut.
   pub readable : (letters : List ℕ) (parts : List (List ℕ)) (work table : List ℕ) → AllBytes (joined parts) →

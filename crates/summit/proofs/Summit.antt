@@ -1,4 +1,4 @@
--- The summit: from the contracts of start, feed, finish and lookup alone to demands 2 and 3. A segment read by calls that the contracts allow
+-- The summit: from the contracts of start, feed, finish, lookup and resolve alone to demands 2 and 3. A segment read by calls that the contracts allow
 -- is the parts fed and finished of the definition, by one equation a call; what is proved of those does the rest.
 use Prim.Native.Nat.{ℕ, _≤_}
 use mathlib.Core.Path.{_≡_, ap, sym, subst, _∙_}
@@ -20,11 +20,16 @@ use Rattle.start.proofs.OneOutcome.{start-once}
 use Rattle.feed.proofs.OneOutcome.{feed-once}
 use Rattle.finish.proofs.OneOutcome.{finish-once}
 use Rattle.lookup.proofs.OneOutcome.{lookup-once}
+use Rattle.marks.specs.declared.Resolved.{Resolved}
+use Rattle.marks.proofs.OneOutcome.{resolve-once}
 use Rattle.demands.specs.Demands.{Accepts, BeginsWith, inParts}
+use Rattle.moment.specs.declared.Request.{Request}
+use Rattle.moment.specs.declared.Request.the-variants as request
+use Rattle.covering.specs.declared.LookupAnswer.{LookupAnswer}
 use Rattle.covering.specs.Lookup.{lookupOf}
 use Rattle.demands.proofs.Exact.{accepts-exactly, no-time, found, refused-exactly, earlier, past}
 use Rattle.demands.proofs.CutAnywhere.{cut-anywhere, accepted-long, accepted-belongs}
-use Rattle.summit.specs.Contracts.{FeedCall, FinishCall, LookupCall, pieceOf, givenTo, heldBy, InOrder, SegmentRead, requestOf, tableLent}
+use Rattle.summit.specs.Contracts.{FeedCall, FinishCall, pieceOf, givenTo, heldBy, InOrder, SegmentRead, requestOf, tableLent, markOf, tableOf}
 use Rattle.summit.specs.DemandsMet.{RequestAnswered, AcceptedRead, DemandsMet}
 
 -- A call of feed: what it answers and leaves, and that its piece holds bytes.
@@ -72,27 +77,24 @@ module _ (brand : ℕ) (parts : List (List ℕ)) (work table : List ℕ) (o : Ou
   uncut : workBytes ≤ length work → o ≡ wholeOf brand bytes work table
   uncut long = read-is ∙ cut-anywhere brand parts work table read-bytes long
 
-  -- a request looked up after it
-  module _ (ls : List Leaf) (allowed : segment brand bytes ≡ some ls) (fits : length ls ≤ room table) (long : workBytes ≤ length work) (c : LookupCall) (same : c .given .0 ≡ o .state)
-      (begins : BeginsWith ls (tableLent c)) where
-    -- the answer is that of the definition
-    looked : c .result ≡ lookupOf (wholeOf brand bytes work table .state) (tableLent c) (requestOf c)
-    looked =
-        c .promised (lookup-once .asks-nothing (c .lifetimes) (c .given))
-        ∙ ap (λ (s : State). lookupOf s (tableLent c) (requestOf c)) (same ∙ ap (λ (z : Out FinishAnswer). z .state) (uncut long))
+  -- a request looked up after it, by whichever call: an answer of the definition, with the state that is left and a table that begins with the list
+  module _ (ls : List Leaf) (allowed : segment brand bytes ≡ some ls) (fits : length ls ≤ room table) (long : workBytes ≤ length work)
+      (s : State) (lent : List ℕ) (q : Request) (a : LookupAnswer) (says : a ≡ lookupOf s lent q) (same : s ≡ o .state) (begins : BeginsWith ls lent) where
+    looked : a ≡ lookupOf (wholeOf brand bytes work table .state) lent q
+    looked = says ∙ ap (λ (z : State). lookupOf z lent q) (same ∙ ap (λ (z : Out FinishAnswer). z .state) (uncut long))
 
-    answered : RequestAnswered brand bytes ls (requestOf c) (c .result)
+    answered : RequestAnswered brand bytes ls q a
     answered =
-        subst (RequestAnswered brand bytes ls (requestOf c)) (sym looked)
+        subst (RequestAnswered brand bytes ls q) (sym looked)
         (record {
-          timed = λ top q t asked.
+          timed = λ top opened t asked.
               record {
-                found = found brand bytes work table read-bytes long ls allowed fits (tableLent c) begins (requestOf c) top q t asked;
-                refused-exactly = refused-exactly brand bytes work table read-bytes long ls allowed fits (tableLent c) begins (requestOf c) top q t asked;
-                earlier = earlier brand bytes work table read-bytes long ls allowed fits (tableLent c) begins (requestOf c) top q t asked;
-                past = past brand bytes work table read-bytes long ls allowed fits (tableLent c) begins (requestOf c) top q t asked;
+                found = found brand bytes work table read-bytes long ls allowed fits lent begins q top opened t asked;
+                refused-exactly = refused-exactly brand bytes work table read-bytes long ls allowed fits lent begins q top opened t asked;
+                earlier = earlier brand bytes work table read-bytes long ls allowed fits lent begins q top opened t asked;
+                past = past brand bytes work table read-bytes long ls allowed fits lent begins q top opened t asked;
               };
-          no-time = no-time brand bytes work table read-bytes long ls allowed fits (tableLent c) begins (requestOf c);
+          no-time = no-time brand bytes work table read-bytes long ls allowed fits lent begins q;
         })
 
   accepted : (k : ℕ) → o .answer ≡ finishes.Listed k → AcceptedRead brand bytes table o
@@ -106,7 +108,13 @@ module _ (brand : ℕ) (parts : List (List ℕ)) (work table : List ℕ) (o : Ou
         fits = fits;
         accepts = subst (Accepts brand bytes table ls) (sym read-is) accepts;
         belongs = belongs;
-        answered = answered ls allowed fits long;
+        answered = λ c same begins.
+            answered ls allowed fits long (c .given .0) (tableLent c) (requestOf c) (c .result) (c .promised (lookup-once .asks-nothing (c .lifetimes) (c .given))) same begins;
+        resolved = λ c same begins.
+            let kept = c .promised (resolve-once .asks-nothing (c .lifetimes) (c .given)) in (
+              ap (λ (z : Resolved). z .page) kept,
+              answered ls allowed fits long (c .given .0) (tableOf c) (request.Seconds (markOf c .seconds)) (c .result .answer) (ap (λ (z : Resolved). z .answer) kept) same begins,
+            );
       }
 
   -- The summit.

@@ -1,4 +1,4 @@
--- Calls of start, feed, finish and lookup as their contracts allow them, and a segment read by such calls. `Pre` and `Post` are a contract as
+-- Calls of start, feed, finish, lookup and resolve as their contracts allow them, and a segment read by such calls. `Pre` and `Post` are a contract as
 -- the check reads it: of a function's own modules `Kinds` and `Reads`.
 use Prim.Native.Nat.{ℕ}
 use mathlib.Core.Path.{_≡_}
@@ -21,6 +21,9 @@ use Rattle.finish.proofs.finish.Kinds as finish-kinds
 use Rattle.finish.proofs.finish.Reads as finish-stated
 use Rattle.lookup.proofs.lookup.Kinds as lookup-kinds
 use Rattle.lookup.proofs.lookup.Reads as lookup-stated
+use Rattle.marks.specs.declared.Mark.{Mark}
+use Rattle.marks.proofs.resolve.Kinds as resolve-kinds
+use Rattle.marks.proofs.resolve.Reads as resolve-stated
 
 -- A call: what is given to it, what it returns, what the lent buffers hold after it; and of these what the contract promises, where what
 -- it asks is met.
@@ -42,6 +45,9 @@ FinishCall = Call 0 finish-kinds.ps finish-kinds.r finish-stated.Pre finish-stat
 
 abbrev pub LookupCall : Type 0
 LookupCall = Call 1 lookup-kinds.ps lookup-kinds.r lookup-stated.Pre lookup-stated.Post
+
+abbrev pub ResolveCall : Type 0
+ResolveCall = Call 1 resolve-kinds.ps resolve-kinds.r resolve-stated.Pre resolve-stated.Post
 
 -- the brand that is wanted
 abbrev pub brandOf : StartCall → ℕ
@@ -80,3 +86,10 @@ requestOf c = c .given .1 .1 .0
 
 abbrev pub tableLent : LookupCall → List ℕ
 tableLent c = c .given .1 .0 .now
+
+-- the mark that is resolved, and the table that its time is looked up in
+abbrev pub markOf : ResolveCall → Mark
+markOf c = c .given .1 .1 .0
+
+abbrev pub tableOf : ResolveCall → List ℕ
+tableOf c = c .given .1 .0 .now

@@ -13,6 +13,7 @@ use Rattle.segment.specs.Parts.{One, Belongs}
 use Rattle.machine.specs.Faults.{refusal}
 use Rattle.machine.specs.declared.Refusal.{Refusal}
 use Rattle.moment.specs.declared.Request.{Request}
+use Rattle.moment.specs.declared.Request.the-variants as request
 use Rattle.moment.specs.Moments.{Moment, momentOf, reaches, before}
 use Rattle.state.specs.declared.FinishAnswer.{FinishAnswer}
 use Rattle.state.specs.declared.FinishAnswer.the-variants as finishes
@@ -22,7 +23,7 @@ use Rattle.covering.specs.declared.LookupAnswer.{LookupAnswer}
 use Rattle.covering.specs.declared.LookupAnswer.the-variants as lookups
 use Rattle.covering.specs.Records.{recordOf, leafCovers, NoLeafCovers}
 use Rattle.demands.specs.Demands.{Accepts, BeginsWith}
-use Rattle.summit.specs.Contracts.{LookupCall, requestOf, tableLent}
+use Rattle.summit.specs.Contracts.{LookupCall, requestOf, tableLent, ResolveCall, markOf, tableOf}
 
 -- What a time gets, in ticks or as an exact fraction of them: the leaf that covers it on the index's own time line; a refusal exactly when no leaf
 -- covers it, 23 before the list and 24 past it.
@@ -39,7 +40,8 @@ pub record RequestAnswered (brand : ℕ) (bytes : List ℕ) (ls : List Leaf) (r 
   pub no-time : (top : Opened) → topIndex brand bytes ≡ some top → momentOf r (top .index .scale) ≡ none → answer ≡ lookups.Refused (refusal 26 0)
 
 -- What is accepted: a segment of the tree whose leaves the table has room for, with the state and the list that it should leave; its bytes
--- and its ticks belong; and each request looked up with that state and a table that begins with the list is answered.
+-- and its ticks belong; and each request looked up with that state and a table that begins with the list is answered, and each mark with its
+-- page.
 pub record AcceptedRead (brand : ℕ) (bytes table : List ℕ) (o : Out FinishAnswer) : Type 0 where
   pub leaves : List Leaf
   pub allowed : segment brand bytes ≡ some leaves
@@ -47,6 +49,8 @@ pub record AcceptedRead (brand : ℕ) (bytes table : List ℕ) (o : Out FinishAn
   pub accepts : Accepts brand bytes table leaves o
   pub belongs : Belongs brand bytes leaves
   pub answered : (c : LookupCall) → c .given .0 ≡ o .state → BeginsWith leaves (tableLent c) → RequestAnswered brand bytes leaves (requestOf c) (c .result)
+  pub resolved : (c : ResolveCall) → c .given .0 ≡ o .state → BeginsWith leaves (tableOf c) →
+      (c .result .page ≡ markOf c .page) × RequestAnswered brand bytes leaves (request.Seconds (markOf c .seconds)) (c .result .answer)
 
 pub record DemandsMet (brand : ℕ) (bytes work table : List ℕ) (o : Out FinishAnswer) : Type 0 where
   -- Demand 2: "accepts exactly the segments that document 01 allows"; row 15 is for want of room, row 1 for want of a work area.
