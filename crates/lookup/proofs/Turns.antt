@@ -1,16 +1,20 @@
 -- A pass over the records, whatever the time: what the records from the i-th on come to is what all come to.
-use Prim.Native.Nat.{ℕ, suc, _+_, _-_, _≤_, _<_}
-use mathlib.Core.Path.{_≡_, sym, ap, _∙_}
+use Prim.Native.Nat.{ℕ, suc, _+_, _-_, _*_, _/_, _≤_, _<_}
+use mathlib.Core.Path.{_≡_, sym, ap, subst, _∙_}
 use mathlib.Core.List.{List}
-use mathlib.Core.Bool.{true, false}
+use mathlib.Core.Bool.{Bool, true, false}
 use mathlib.Core.Option.{Option}
 use native.Mathlib.Omega.{arith}
 use native.Mathlib.Numerals.{add-one}
 use Rattle.basics.proofs.Picks.{pick-yes, pick-no}
-use Rattle.table.specs.Table.{recordAt}
+use lib.ListN.{length}
+use Rattle.table.specs.declared.Record.{Record}
+use Rattle.table.specs.Table.{recordNumbers, recordAt}
 use Rattle.moment.specs.Moments.{Moment}
 use Rattle.covering.specs.declared.LookupAnswer.the-variants as answer
 use Rattle.covering.specs.Lookup.{recordCovers, coveringFrom, outside, found, lookIn}
+use Rattle.lookup.specs.declared.Spot.the-variants as spot
+use Rattle.lookup.specs.Spots.{recordFrom, Spots}
 
 -- the records from the i-th of so many on come to what all come to
 abbrev pub Rest : ℕ → List ℕ → Moment → ℕ → Type 0
@@ -46,3 +50,37 @@ module _ (leaves : ℕ) (table : List ℕ) (t : Moment) where
     pub last-turn : leaves ≤ i → outside leaves table t ≡ lookIn leaves table t
     unfolding coveringFrom found
     last-turn h = let e : leaves - i ≡ 0 = omega arith in sym (ap (λ (k : ℕ). found leaves table t (coveringFrom k i table t)) e) ∙ rest
+
+-- The same by places: a pass stands at the first number of a record, or behind the last.
+pub record Stands (leaves : ℕ) (table : List ℕ) (t : Moment) (at : ℕ) : Type 0 where
+  pub starts : recordNumbers * (at / recordNumbers) ≡ at
+  pub within : at ≤ recordNumbers * leaves
+  pub rest : Rest leaves table t (at / recordNumbers)
+
+module _ (leaves : ℕ) (table : List ℕ) (t : Moment) where
+  pub first-place : Stands leaves table t 0
+  first-place = record { starts = omega arith; within = omega arith; rest = first-turn leaves table t }
+
+  module _ (at : ℕ) (so : Stands leaves table t at) where
+    -- the record whose first number stands there
+    same-record : (b : Bool) → b ≡ recordCovers (recordFrom table at) t → recordCovers (recordAt table (at / recordNumbers)) t ≡ b
+    unfolding recordAt
+    same-record b e = ap (λ (k : ℕ). recordCovers (recordFrom table k) t) (so .starts) ∙ sym e
+
+    pub place-found : recordNumbers * leaves ≤ length table → at < recordNumbers * leaves → true ≡ recordCovers (recordFrom table at) t → Spots table (lookIn leaves table t) (spot.At at)
+    place-found long h e =
+        let starts = so .starts in
+        (record { starts = starts; inside = omega arith }, turn-found leaves table t (at / recordNumbers) (so .rest) (omega arith) (same-record true e))
+
+    pub next-place : at < recordNumbers * leaves → false ≡ recordCovers (recordFrom table at) t → Stands leaves table t (at + recordNumbers)
+    next-place h e =
+        let starts = so .starts in
+        let on : at / recordNumbers + 1 ≡ (at + recordNumbers) / recordNumbers = omega arith in
+        record {
+          starts = omega arith;
+          within = omega arith;
+          rest = subst (Rest leaves table t) on (turn-on leaves table t (at / recordNumbers) (so .rest) (omega arith) (same-record false e));
+        }
+
+    pub last-place : recordNumbers * leaves ≤ at → outside leaves table t ≡ lookIn leaves table t
+    last-place h = let starts = so .starts in last-turn leaves table t (at / recordNumbers) (so .rest) (omega arith)

@@ -4,13 +4,13 @@ ghost use Prim.Native.Nat.{_+_, _*_, _^_, _≤_, _<_};
 ghost use lib.ListN.{length};
 ghost use Rattle.basics.specs.Choose.{pick};
 ghost use Rattle.machine.specs.Faults.{refusal};
-ghost use Rattle.table.specs.Table.{mostRecords, recordNumbers, recordAt};
+ghost use Rattle.table.specs.Table.{mostRecords, recordNumbers};
 ghost use Rattle.moment.specs.Moments.{tick, momentOf};
 ghost use Rattle.state.specs.declared.State.the-variants as state;
 ghost use Rattle.state.specs.Ranges.{inRange};
 ghost use Rattle.covering.specs.Lookup.{recordCovers, outside, lookIn, lookAmong, lookupOf};
 ghost use Rattle.covering.specs.declared.LookupAnswer.the-variants as answer;
-ghost use Rattle.lookup.specs.Spots.{Spots};
+ghost use Rattle.lookup.specs.Spots.{recordFrom, Spots};
 use covering::LookupAnswer;
 use machine::Refusal;
 use moment::Request;
@@ -43,37 +43,37 @@ const NO_TIME: u64 = 26;
 // The highest number of 64 bits.
 const HIGHEST: u64 = 18446744073709551615;
 
-// Where a lookup ends: at a record, by its index from 0, or at the number of a refusal. Spots fit in registers, an answer does not:
-// the ways through a lookup meet in a spot, and one place makes the answer of it.
-enum Spot {
+// Where a lookup ends: at a record, by the place of its first number in the table, or at the number of a refusal. Spots fit in
+// registers, an answer does not: the ways through a lookup meet in a spot, and one place makes the answer of it.
+pub enum Spot {
     At(usize),
     Refused(u64),
 }
 
-// Whether record i covers t. The end is not computed, since it may not fit.
-fn covers_at(table: &[u64], i: usize, t: u64) -> bool
-    requires { ⌜ recordNumbers * i + recordNumbers ≤ length (now table) ⌝ }
-    ensures { λ r. ⌜ r ≡ recordCovers (recordAt (now (table .entry)) i) (tick t) ⌝ }
+// Whether the record at a place covers t. The end is not computed, since it may not fit.
+fn covers_at(table: &[u64], at: usize, t: u64) -> bool
+    requires { ⌜ at + recordNumbers ≤ length (now table) ⌝ }
+    ensures { λ r. ⌜ r ≡ recordCovers (recordFrom (now (table .entry)) at) (tick t) ⌝ }
 {
-    let start = table[NUMBERS * i + START];
+    let start = table[at + START];
     if t < start {
         return false;
     }
-    let duration = table[NUMBERS * i + DURATION];
+    let duration = table[at + DURATION];
     if t - start < duration {
         return true;
     }
     false
 }
 
-// Whether record i covers 2^64 + t. It starts before that, so its end has to lie farther past 2^64 than t. The end is not computed, since
-// it does not fit.
-fn covers_beyond(table: &[u64], i: usize, t: u64) -> bool
-    requires { ⌜ recordNumbers * i + recordNumbers ≤ length (now table) ⌝ }
-    ensures { λ r. ⌜ r ≡ recordCovers (recordAt (now (table .entry)) i) (tick (2 ^ 64 + t)) ⌝ }
+// Whether the record at a place covers 2^64 + t. It starts before that, so its end has to lie farther past 2^64 than t. The end is not
+// computed, since it does not fit.
+fn covers_beyond(table: &[u64], at: usize, t: u64) -> bool
+    requires { ⌜ at + recordNumbers ≤ length (now table) ⌝ }
+    ensures { λ r. ⌜ r ≡ recordCovers (recordFrom (now (table .entry)) at) (tick (2 ^ 64 + t)) ⌝ }
 {
-    let room = HIGHEST - table[NUMBERS * i + START];
-    let duration = table[NUMBERS * i + DURATION];
+    let room = HIGHEST - table[at + START];
+    let duration = table[at + DURATION];
     if duration <= room {
         return false;
     }
@@ -95,17 +95,18 @@ fn outside_list(leaves: usize, table: &[u64], t: u64) -> u64
     PAST
 }
 
-// The lowest-numbered record that covers t: the first one met.
+// The lowest-numbered record that covers t: the first one met. The loop counts places and not records: one number less to keep.
 fn look_in(leaves: usize, table: &[u64], t: u64) -> Spot
     requires { ⌜ recordNumbers * leaves ≤ length (now table) ⌝ }
     ensures { λ r. ⌜ Spots (now (table .entry)) (lookIn leaves (now (table .entry)) (tick t)) r ⌝ }
 {
-    let mut i: usize = 0;
-    while i < leaves {
-        if covers_at(table, i, t) {
-            return Spot::At(i);
+    let stop = NUMBERS * leaves;
+    let mut at: usize = 0;
+    while at < stop {
+        if covers_at(table, at, t) {
+            return Spot::At(at);
         }
-        i += 1;
+        at += NUMBERS;
     }
     Spot::Refused(outside_list(leaves, table, t))
 }
@@ -116,12 +117,13 @@ fn look_beyond(leaves: usize, table: &[u64], t: u64) -> Spot
     requires { ⌜ recordNumbers * leaves ≤ length (now table) ⌝ }
     ensures { λ r. ⌜ Spots (now (table .entry)) (lookIn leaves (now (table .entry)) (tick (2 ^ 64 + t))) r ⌝ }
 {
-    let mut i: usize = 0;
-    while i < leaves {
-        if covers_beyond(table, i, t) {
-            return Spot::At(i);
+    let stop = NUMBERS * leaves;
+    let mut at: usize = 0;
+    while at < stop {
+        if covers_beyond(table, at, t) {
+            return Spot::At(at);
         }
-        i += 1;
+        at += NUMBERS;
     }
     Spot::Refused(PAST)
 }
@@ -144,8 +146,8 @@ fn look_among(leaves: u64, scale: u64, table: &[u64], request: Request) -> Spot
     }
 }
 
-// The spot that an accepted state gives, from its numbers.
-fn look_accepted(count: u64, leaves: u64, top: Top, table: &[u64], request: Request) -> Spot
+// The spot that an accepted state gives, from its numbers: for callers that keep a state as numbers.
+pub fn look_accepted(count: u64, leaves: u64, top: Top, table: &[u64], request: Request) -> Spot
     ensures { λ r. ⌜ Spots (now (table .entry)) (lookupOf (state.Accepted count leaves top) (now (table .entry)) request) r ⌝ }
 {
     if range::accepted_in_range(count, leaves, top) {
@@ -181,7 +183,10 @@ pub fn lookup(s: State, table: &[u64], request: Request) -> LookupAnswer
 {
     let spot = spot_of(s, table, request);
     match spot {
-        Spot::At(i) => LookupAnswer::Found((i + 1) as u64, records::record_at(table, i)),
+        Spot::At(at) => {
+            let i = at / NUMBERS;
+            LookupAnswer::Found((i + 1) as u64, records::record_at(table, i))
+        }
         Spot::Refused(number) => LookupAnswer::Refused(Refusal { number, place: 0 }),
     }
 }

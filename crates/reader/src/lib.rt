@@ -56,21 +56,12 @@ pub fn read_head(bytes: &[u8], at: usize, end: usize) -> HeadRead
     next_head(reader_at(bytes, at), end)
 }
 
-fn lesser(a: usize, b: usize) -> usize
-    ensures { λ r. ⌜ (r ≤ a) × (r ≤ b) ⌝ }
-{
-    if a < b {
-        return a;
-    }
-    b
-}
-
 // A header of 8 bytes that are there, and that shows no fault.
 fn short_head(bytes: &[u8], at: usize, end: usize) -> HeadRead
     requires { ⌜ at + 16 ≤ farthest ⌝ }
     ensures { λ r. ⌜ ((h : Header) → r ≡ head.Read h → r ≡ headAt (now (bytes .entry)) at end) ⌝ }
 {
-    if lesser(end, bytes.len()) < at + SHORT {
+    if bytes.len() < at + SHORT {
         return HeadRead::Ended;
     }
     let first = read_field(bytes, at, 4);
@@ -80,7 +71,8 @@ fn short_head(bytes: &[u8], at: usize, end: usize) -> HeadRead
     if size < SHORT as u64 {
         return HeadRead::Ended;
     }
-    if ((end - at) as u64) < size {
+    // Where no 8 bytes are left up to `end`, this tells it too: a size is 8 at least here.
+    if end < at + (size as usize) {
         return HeadRead::Ended;
     }
     let second = read_field(bytes, next, 4);
@@ -102,7 +94,9 @@ pub fn quick_head(bytes: &[u8], at: usize, end: usize) -> HeadRead
 {
     let short = short_head(bytes, at, end);
     let HeadRead::Read(_) = short else {
-        return read_head(bytes, at, end);
+        // A copy of the slice, made here, leaves it in registers where the header is read at once.
+        let all = bytes;
+        return read_head(all, at, end);
     };
     short
 }

@@ -114,13 +114,28 @@ module _ (id : ℕ) (so : Known) (base : ℕ) (s : List ℕ) (f : Flow) (at end 
   unfolding onField either
   tfhd-ended e = sym (told ∙ ap Told e)
 
-  pub tfhd-read : {v next : ℕ} → fieldAt s (at + 4) 4 ≡ field.Read v next → next ≤ length s → next ≤ end →
+  tfhd-read : {v next : ℕ} → fieldAt s (at + 4) 4 ≡ field.Read v next → next ≤ length s → next ≤ end →
       walkedD trafSoOf base s end f (skipWalked s end (withMark so (pick (eqb v id) 3 2))) ≡ Tfhd
   unfolding onField
   tfhd-read {v} {next} e there before =
       skip-right trafSoOf (withMark so (pick (eqb v id) 3 2)) base s f next end there before
       ∙ ap (λ (p : TrafPhase). from left base s f (skipTo (record { track = p; seen = seenOf so }) (base + end)) next) (headed-phase (eqb v id))
       ∙ sym (told ∙ ap Told e ∙ gave-headed (trafSoOf so) (base + end) f (base + next) (drop next s) (eqb v id))
+
+  -- the whole box is there
+  pub tfhd-whole : {v next : ℕ} → fieldAt s (at + 4) 4 ≡ field.Read v next → next ≤ end → end ≤ length s →
+      walkedD trafSoOf base s end f (walked.Over (withMark so (pick (eqb v id) 3 2))) ≡ Tfhd
+  unfolding skipWalked
+  tfhd-whole e before all = ap (walkedD trafSoOf base s end f) (sym (pick-no _ _ _ (le-ltb _ _ all))) ∙ tfhd-read e (omega arith) before
+
+  -- the bytes end inside the box, which has room for the track ID: they end before it, or after it
+  pub tfhd-short : at + 8 ≤ end → length s < end → ended left base s f ≡ Tfhd
+  unfolding skipWalked walkedD fieldAt
+  tfhd-short room few = by (lt-or-ge (length s) (at + 4 + 4))
+    where
+      by : (length s < at + 4 + 4) ⊎ (at + 4 + 4 ≤ length s) → ended left base s f ≡ Tfhd
+      by (inl h) = tfhd-ended (pick-yes _ _ _ (lt-ltb _ _ h))
+      by (inr h) = ap (walkedD trafSoOf base s end f) (sym (pick-yes _ _ _ (lt-ltb _ _ few))) ∙ tfhd-read (pick-no _ _ _ (le-ltb _ _ h)) h (omega arith)
 
 unlike : {A : Type 0} → true ≡ false → A
 unlike q = let z : _≡_ {A = ℕ} 0 1 = cc in absurd (omega arith)

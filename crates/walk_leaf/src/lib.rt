@@ -94,21 +94,25 @@ fn track_mark(v: u64, id: u64) -> u64
     2
 }
 
-// A `tfhd`: version and flags, track ID; the rest is ignored.
+// A `tfhd`: version and flags, track ID; the rest is ignored. Whether the whole box is there is asked first: the compiler then drops the
+// field's own test, since the field lies inside the box.
 fn tfhd_box(id: u64, bytes: &[u8], at: usize, h: Header, so: Known) -> Walked
     requires { ⌜ Headed (now bytes) at h × (h .kind ≡ tfhd) × (h .head + 8 ≤ h .size) × (so .any ≤ 1) ⌝ }
     ensures { λ r. ⌜ TrackWalked (now (bytes .entry)) id at h so r ⌝ }
 {
+    if bytes.len() < at + (h.size as usize) {
+        return Walked::Ended;
+    }
     let got = read_field(bytes, at + (h.head as usize) + 4, 4);
     let FieldRead::Read(v, _) = got else {
         return Walked::Ended;
     };
-    skip_box(bytes, at + (h.size as usize), marked(so, track_mark(v, id)))
+    Walked::Over(marked(so, track_mark(v, id)))
 }
 
 // The number that the version of a `tfdt` shows, or 0.
 fn version_flaw(h: Header, v: u64) -> u64
-    requires { ⌜ h .head ≤ 16 ⌝ }
+    requires { ⌜ h .head ≤ h .size ⌝ }
     ensures { λ r. ⌜
         ((base : ℕ) → r ≡ flawOf (tfdtVersionFaults (base + h .pos) (boxEnd (placed base h)) v (base + (h .pos + h .head + 1))))
         ⌝ }
@@ -116,13 +120,14 @@ fn version_flaw(h: Header, v: u64) -> u64
     if 1 < v {
         return 10;
     }
+    let body = h.size - h.head;
     if v == 0 {
-        if h.size != h.head + 8 {
+        if body != 8 {
             return 6;
         }
         return 0;
     }
-    if h.size != h.head + 12 {
+    if body != 12 {
         return 6;
     }
     0
@@ -169,7 +174,7 @@ fn time_box(at: usize, end: usize, so: Known, v: u64) -> Walked
 }
 
 // A `tfdt`: version, flags, decode time.
-fn tfdt_box(bytes: &[u8], at: usize, h: Header, so: Known) -> Walked
+fn tfdt_read(bytes: &[u8], at: usize, h: Header, so: Known) -> Walked
     requires { ⌜ Headed (now bytes) at h × (h .kind ≡ tfdt) × (h .head + 8 ≤ h .size) × (so .any ≤ 1) ⌝ }
     ensures { λ r. ⌜ ((id : ℕ) → TrackWalked (now (bytes .entry)) id at h so r) ⌝ }
 {
@@ -186,6 +191,18 @@ fn tfdt_box(bytes: &[u8], at: usize, h: Header, so: Known) -> Walked
         return Walked::Ended;
     };
     time_box(at, end, so, v)
+}
+
+// The same, read at one of two places: where the whole box is there, the compiler drops the tests whether its fields are.
+fn tfdt_box(bytes: &[u8], at: usize, h: Header, so: Known) -> Walked
+    requires { ⌜ Headed (now bytes) at h × (h .kind ≡ tfdt) × (h .head + 8 ≤ h .size) × (so .any ≤ 1) ⌝ }
+    ensures { λ r. ⌜ ((id : ℕ) → TrackWalked (now (bytes .entry)) id at h so r) ⌝ }
+{
+    if at + (h.size as usize) <= bytes.len() {
+        return tfdt_read(bytes, at, h, so);
+    }
+    let all = bytes;
+    tfdt_read(all, at, h, so)
 }
 
 // A box of a `traf`.

@@ -1,4 +1,4 @@
--- What the answer of a segment makes of a reading by structure.
+-- What the answer of a segment makes of a reading by structure, and what an ending says of answer and state.
 use Prim.Native.Nat.{ℕ, suc, _+_, _≤_, _<_}
 use mathlib.Core.Path.{_≡_}
 use mathlib.Core.List.{List}
@@ -13,7 +13,7 @@ use Rattle.state.specs.declared.State.the-variants as state
 use Rattle.state.specs.declared.FinishAnswer.{FinishAnswer}
 use Rattle.state.specs.declared.FinishAnswer.the-variants as finishes
 use Rattle.state.specs.Step.{flow0, pastLimit, pastMaterial}
-use Rattle.state.specs.Calls.{Out, out, leftOf}
+use Rattle.state.specs.Calls.{Out, out, leftOf, startOf}
 use Rattle.descent.specs.Whole.{materialD, segmentD}
 use Rattle.walk_entries.specs.Views.{flowAt}
 use Rattle.walk_opening.specs.declared.OpeningAnswer.{OpeningAnswer}
@@ -24,6 +24,8 @@ use Rattle.walk_entries.specs.declared.Went.{Went}
 use Rattle.walk_entries.specs.declared.Went.the-variants as went
 use Rattle.whole.specs.declared.SegmentRead.{SegmentRead}
 use Rattle.whole.specs.declared.SegmentRead.the-variants as segment
+use Rattle.whole.specs.declared.Ending.{Ending}
+use Rattle.whole.specs.declared.Ending.the-variants as ending
 
 -- the material is read, it is refused, or the bytes end; a refusal and an end with the leaves listed before
 unfoldable pub segmentRead : List ℕ → List ℕ → List ℕ → SegmentRead → Res Top Flow Left
@@ -83,3 +85,10 @@ abbrev pub tooLong : ℕ → ℕ → List ℕ → List ℕ → Out FinishAnswer
 tooLong n leaves work table =
     let x = lowest (pastMaterial n) (pastLimit n) in
     out (finishes.Refused x) (state.Refused (suc n) leaves x) work table
+
+-- What the ending of a whole reading says of answer and state, with the brand wanted, and the work area and the table after it. A work area
+-- that is too short leaves a reading before its first byte.
+unfoldable pub endingOut : ℕ → List ℕ → List ℕ → Ending → Out FinishAnswer
+endingOut brand work table (ending.Accepted n leaves top) = out (finishes.Listed leaves) (state.Accepted n leaves top) work table
+endingOut brand work table (ending.Refused n leaves x) = out (finishes.Refused x) (state.Refused n leaves x) work table
+endingOut brand work table ending.ShortWork = out (finishes.Refused (refusal 1 0)) (startOf brand) work table

@@ -7,13 +7,12 @@ ghost use lib.ListN.{length, take, drop};
 ghost use Rattle.basics.specs.Bytes.{number};
 ghost use Rattle.segment.specs.Constants.{limit};
 ghost use Rattle.machine.specs.Faults.{refusal};
-ghost use Rattle.state.specs.declared.State.the-variants as state;
-ghost use Rattle.state.specs.declared.FinishAnswer.the-variants as finishes;
 ghost use Rattle.state.specs.Flow.{workBytes};
 ghost use Rattle.state.specs.Calls.{out, wholeOf};
 ghost use Rattle.machine.specs.Limit.{beyond};
 ghost use Rattle.descent.specs.Whole as defs;
-ghost use Rattle.whole.specs.Views.{openingOut, gapOut, materialOut, Fits, WithinBytes, WithinLimit, segmentRead, MaterialWalked, SegmentWalked, tooLong};
+ghost use Rattle.whole.specs.declared.Ending.the-variants as ending;
+ghost use Rattle.whole.specs.Views.{openingOut, gapOut, materialOut, Fits, WithinBytes, WithinLimit, segmentRead, MaterialWalked, SegmentWalked, tooLong, endingOut};
 use fields::Stop;
 use fields::word_at;
 use machine::Refusal;
@@ -36,6 +35,14 @@ const WORK_BYTES: usize = 49152;
 
 // The most levels of indexes, with the top one.
 const LEVELS: u64 = 4;
+
+// How a whole reading ends: accepted, with what the top index says; refused, and so kept; or the work area is too short to begin. The first
+// two tell how many bytes were read and how many leaves were listed.
+pub enum Ending {
+    Accepted(u64, u64, Top),
+    Refused(u64, u64, Refusal),
+    ShortWork,
+}
 
 // What the reader answers, and the state that it gives back.
 pub struct Answered {
@@ -135,24 +142,16 @@ fn segment_walk(brand: u64, bytes: &[u8], work: &mut [u8], table: &mut [u64]) ->
 }
 
 // A refusal, which is kept.
-fn refused(number: u64, place: u64, count: u64, leaves: u64) -> Answered
-    ensures { λ r. ⌜ (r .answer ≡ finishes.Refused (refusal number place)) × (r .state ≡ state.Refused count leaves (refusal number place)) ⌝ }
+fn refused(number: u64, place: u64, count: u64, leaves: u64) -> Ending
+    ensures { λ r. ⌜ r ≡ ending.Refused count leaves (refusal number place) ⌝ }
 {
-    let refusal = Refusal { number, place };
-    Answered {
-        answer: FinishAnswer::Refused(refusal),
-        state: State::Refused {
-            count,
-            leaves,
-            refusal,
-        },
-    }
+    Ending::Refused(count, leaves, Refusal { number, place })
 }
 
 // A byte after the material, or after the limit: 3 goes before 21.
-fn too_long(n: u64, leaves: u64) -> Answered
+fn too_long(n: u64, leaves: u64) -> Ending
     requires { ⌜ n ≤ limit ⌝ }
-    ensures { λ r. ⌜ ((work table : List ℕ) → out (r .answer) (r .state) work table ≡ tooLong n leaves work table) ⌝ }
+    ensures { λ r. ⌜ ((brand : ℕ) (work table : List ℕ) → endingOut brand work table r ≡ tooLong n leaves work table) ⌝ }
 {
     if n == LIMIT {
         return refused(3, n, n + 1, leaves);
@@ -161,11 +160,11 @@ fn too_long(n: u64, leaves: u64) -> Answered
 }
 
 // What the segment comes to: `most` of its `len` bytes are within the limit.
-fn outcome(r: SegmentRead, most: u64, len: u64) -> Answered
+fn outcome(r: SegmentRead, most: u64, len: u64) -> Ending
     requires { ⌜ (most ≤ limit) × WithinLimit r ⌝ }
     ensures { λ q. ⌜
-        ((bytes work table : List ℕ) → length bytes ≡ len → most ≡ min limit (length bytes) → WithinBytes (take limit bytes) r →
-        out (q .answer) (q .state) work table ≡ defs.outcome (beyond (refusal 3 limit) (segmentRead (take limit bytes) work table r) (drop limit bytes)))
+        ((brand : ℕ) (bytes work table : List ℕ) → length bytes ≡ len → most ≡ min limit (length bytes) → WithinBytes (take limit bytes) r →
+        endingOut brand work table q ≡ defs.outcome (beyond (refusal 3 limit) (segmentRead (take limit bytes) work table r) (drop limit bytes)))
         ⌝ }
 {
     match r {
@@ -173,14 +172,7 @@ fn outcome(r: SegmentRead, most: u64, len: u64) -> Answered
             if reached.n < len {
                 return too_long(reached.n, reached.leaves);
             }
-            Answered {
-                answer: FinishAnswer::Listed(reached.leaves),
-                state: State::Accepted {
-                    count: reached.n,
-                    leaves: reached.leaves,
-                    top,
-                },
-            }
+            Ending::Accepted(reached.n, reached.leaves, top)
         }
         SegmentRead::Bad(x) => refused(x.number, x.place, x.count, x.leaves),
         SegmentRead::Ended(leaves) => {
@@ -201,23 +193,49 @@ fn lesser(a: usize, b: usize) -> usize
     b
 }
 
-// A whole segment, with the brand wanted, the work area and the leaf table lent for it.
+// How the reading of a whole segment ends, with the brand wanted, the work area and the leaf table lent for it. A state has room for an
+// open reading, which an ending has no use for: it is made of the ending at the very end, and so is copied nowhere on the way.
+pub fn whole_ending(segment: &[u8], brand: [u8; 4], work: &mut [u8], table: &mut [u64]) -> Ending
+    ensures { λ r. ⌜
+        endingOut (number brand) (now (work .exit)) (now (table .exit)) r
+        ≡ wholeOf (number brand) (now (segment .entry)) (now (work .entry)) (now (table .entry))
+        ⌝ }
+{
+    if work.len() < WORK_BYTES {
+        return Ending::ShortWork;
+    }
+    let most = lesser(LIMIT as usize, segment.len());
+    let read = segment_walk(word_at(&brand, 0), &segment[..most], work, table);
+    outcome(read, most as u64, segment.len() as u64)
+}
+
+// A whole segment, with the answer of finish, and the state.
 pub fn whole(segment: &[u8], brand: [u8; 4], work: &mut [u8], table: &mut [u64]) -> Answered
     ensures { λ r. ⌜
         out (r .answer) (r .state) (now (work .exit)) (now (table .exit))
         ≡ wholeOf (number brand) (now (segment .entry)) (now (work .entry)) (now (table .entry))
         ⌝ }
 {
-    if work.len() < WORK_BYTES {
-        return Answered {
+    let ending = whole_ending(segment, brand, work, table);
+    match ending {
+        Ending::Accepted(count, leaves, top) => Answered {
+            answer: FinishAnswer::Listed(leaves),
+            state: State::Accepted { count, leaves, top },
+        },
+        Ending::Refused(count, leaves, refusal) => Answered {
+            answer: FinishAnswer::Refused(refusal),
+            state: State::Refused {
+                count,
+                leaves,
+                refusal,
+            },
+        },
+        Ending::ShortWork => Answered {
             answer: FinishAnswer::Refused(Refusal {
                 number: 1,
                 place: 0,
             }),
             state: start(brand),
-        };
+        },
     }
-    let most = lesser(LIMIT as usize, segment.len());
-    let read = segment_walk(word_at(&brand, 0), &segment[..most], work, table);
-    outcome(read, most as u64, segment.len() as u64)
 }

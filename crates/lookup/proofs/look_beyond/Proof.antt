@@ -1,38 +1,37 @@
--- `lookup::look_beyond` meets its contract, by that of `covers_beyond`, by the laws of a turn (`Turns`), and by `outside-past`: no record starts at
+-- `lookup::look_beyond` meets its contract, by that of `covers_beyond`, by the laws of a place (`Turns`), and by `outside-past`: no record starts at
 -- 2^64 ticks or later, since a start has 64 bits.
-use Prim.Native.Nat.{_+_, _-_, _^_, _≤_}
+use Prim.Native.Nat.{_+_, _^_, _*_, _-_}
 use mathlib.Core.Path.{sym, _∙_}
 use native.Mathlib.Omega.{arith}
+use Rattle.table.specs.Table.{recordNumbers}
 use Rattle.moment.specs.Moments.{tick}
 use Rattle.lookup.proofs.Passing.{outside-past}
-use Rattle.lookup.proofs.Turns.{Rest, first-turn, turn-found, turn-on, last-turn}
+use Rattle.lookup.proofs.Turns.{Stands, first-place, place-found, next-place, last-place}
 use Rattle.lookup.proofs.look_beyond.Statement.{statement}
 use Rattle.lookup.proofs.look_beyond.Tie as tie
 
 abbrev Inv-loop : tie.InvT-loop
-Inv-loop leaves table t i₀ i = (i ≤ leaves) × Rest leaves table (tick (2 ^ 64 + t)) i
+Inv-loop leaves table t stop at₀ at = Stands leaves table (tick (2 ^ 64 + t)) at
 
 abbrev μ-loop : tie.MeasureT-loop
-μ-loop leaves table t i₀ i = leaves - i
+μ-loop leaves table t stop at₀ at = recordNumbers * leaves - at
 
 loop-holds : tie.Need-loop-holds Inv-loop μ-loop
-loop-holds c = let a = c .before .args in (omega arith, first-turn (a .leaves) (a .table .now) (tick (2 ^ 64 + a .t)))
+loop-holds c = let a = c .before .args in first-place (a .leaves) (a .table .now) (tick (2 ^ 64 + a .t))
 
 returns : tie.Need-returns Inv-loop μ-loop
 returns c =
-    let at-covers = c .before in
-    let around = at-covers .before .before in
+    let asked = c .before in
+    let around = asked .before .before in
     let a = around .before .before .args in
-    let covered = sym (at-covers .covers-beyond .ensures) ∙ c .if1 .taken in
-    (omega arith, turn-found (a .leaves) (a .table .now) (tick (2 ^ 64 + a .t)) (around .loop .i) (around .loop .inv .1) (omega arith) covered)
+    place-found (a .leaves) (a .table .now) (tick (2 ^ 64 + a .t)) (around .loop .at) (around .loop .inv) (omega arith) (omega arith) (sym (c .if1 .taken) ∙ asked .covers-beyond .ensures)
 
 loop-again : tie.Need-loop-again Inv-loop μ-loop
 loop-again c =
-    let at-covers = c .before in
-    let around = at-covers .before .before in
+    let asked = c .before in
+    let around = asked .before .before in
     let a = around .before .before .args in
-    let passed = sym (at-covers .covers-beyond .ensures) ∙ c .if1 .left in
-    (omega arith, turn-on (a .leaves) (a .table .now) (tick (2 ^ 64 + a .t)) (around .loop .i) (around .loop .inv .1) (omega arith) passed)
+    next-place (a .leaves) (a .table .now) (tick (2 ^ 64 + a .t)) (around .loop .at) (around .loop .inv) (omega arith) (sym (c .if1 .left) ∙ asked .covers-beyond .ensures)
 
 returns-2 : tie.Need-returns-2 Inv-loop μ-loop
 returns-2 c =
@@ -40,9 +39,10 @@ returns-2 c =
     let known = around .before in
     let a = known .before .args in
     sym (outside-past (a .leaves) (a .table .now) (2 ^ 64 + a .t) (omega (arith, known .shared-slice-known .given 2 .fits)))
-    ∙ last-turn (a .leaves) (a .table .now) (tick (2 ^ 64 + a .t)) (around .loop .i) (around .loop .inv .1) (omega arith)
+    ∙ last-place (a .leaves) (a .table .now) (tick (2 ^ 64 + a .t)) (around .loop .at) (around .loop .inv) (omega arith)
 
 pub look-beyond-spec : {M : Type 1} → statement M
 look-beyond-spec =
     tie.close
-    (tie.spec Inv-loop μ-loop loop-holds (λ c κs. omega arith) returns (λ c. omega arith) (λ c. omega arith) loop-again returns-2)
+    (tie.spec Inv-loop μ-loop (λ c. omega arith) loop-holds (λ c κs. let so = c .before .loop .inv .starts in omega arith) returns
+    (λ c. let so = c .before .before .before .loop .inv .starts in omega arith) (λ c. omega arith) loop-again returns-2)

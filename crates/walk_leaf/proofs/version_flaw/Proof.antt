@@ -17,8 +17,13 @@ version-flaw-spec =
     (tie.spec
     (λ c base. sym (version-high _ _ _ _ (c .if1 .taken)))
     (search needs)
-    (λ c base. let test = c .before .before .before in sym (short-wrong _ _ _ _ (test .if2 .taken) (λ q. c .if3 .taken (omega arith))))
-    (λ c base. let test = c .before .before .before in sym (short-right _ _ _ _ (test .if2 .taken) (omega arith)))
-    (search needs)
-    (λ c base. let test = c .before .before .before in sym (long-wrong _ _ _ _ (one _ (test .before .if1 .left) (test .if2 .left)) (λ q. c .if4 .taken (omega arith))))
-    (λ c base. let test = c .before .before .before in sym (long-right _ _ _ _ (one _ (test .before .if1 .left) (test .if2 .left)) (omega arith))))
+    (λ c base. let test = c .before in let fits = test .before .before .before .pre in sym (short-wrong _ _ _ _ (test .if2 .taken) (λ q. c .if3 .taken (omega arith))))
+    (λ c base. let test = c .before in let fits = test .before .before .before .pre in sym (short-right _ _ _ _ (test .if2 .taken) (omega arith)))
+    (λ c base.
+    let test = c .before in
+    let fits = test .before .before .before .pre in
+    sym (long-wrong _ _ _ _ (one _ (test .before .before .if1 .left) (test .if2 .left)) (λ q. c .if4 .taken (omega arith))))
+    (λ c base.
+    let test = c .before in
+    let fits = test .before .before .before .pre in
+    sym (long-right _ _ _ _ (one _ (test .before .before .if1 .left) (test .if2 .left)) (omega arith))))

@@ -1,4 +1,4 @@
--- `walk_leaf::tfdt_box` meets its contract, by those of `read_field`, `version_flaw`, `stop_at`, `read_sized` and `time_box`, and by the laws
+-- `walk_leaf::tfdt_read` meets its contract, by those of `read_field`, `version_flaw`, `stop_at`, `read_sized` and `time_box`, and by the laws
 -- `track-tfdt`, `tfdt-ended`, `tfdt-flawed`, `tfdt-short`, `tfdt-timed`, `version-low` and `version-fits`.
 use Prim.Native.Nat.{ℕ, _+_}
 use mathlib.Core.Path.{_≡_, refl, ap, sym, subst, _∙_}
@@ -20,8 +20,8 @@ use Rattle.walk_leaf.specs.declared.Walked.{Walked}
 use Rattle.walk_leaf.specs.declared.Walked.the-variants as walked
 use Rattle.walk_leaf.proofs.Tracks.{track-tfdt, tfdt-ended, tfdt-flawed, tfdt-short, tfdt-timed, version-low, version-fits}
 use borrow.Author.Needs.{needs}
-use Rattle.walk_leaf.proofs.tfdt_box.Statement.{statement}
-use Rattle.walk_leaf.proofs.tfdt_box.Tie as tie
+use Rattle.walk_leaf.proofs.tfdt_read.Statement.{statement}
+use Rattle.walk_leaf.proofs.tfdt_read.Tie as tie
 
 returns : tie.Need-returns
 unfolding walkedD
@@ -175,8 +175,8 @@ returns-4 c id =
       fixed = subst (λ (m : ℕ). WalkFixed s m (c .time-box .result)) (sym ends) (c .time-box .ensures .fixed s (j .inside));
     }
 
-pub tfdt-box-spec : {M : Type 1} → statement M
-tfdt-box-spec =
+pub tfdt-read-spec : {M : Type 1} → statement M
+tfdt-read-spec =
     tie.close
     (tie.spec (search needs) (λ c κs. search needs) (search needs) (search needs) returns
     (λ c κs. search needs) (λ c κs. search needs) returns-2 add-read-sized read-sized-requires (search needs) (search needs) returns-3 ends-box returns-4)

@@ -1,0 +1,101 @@
+// The states that the library makes itself: a reading before its first byte, and one that has ended. The numbers of the latter are few: the rest
+// of the 57 is made 0, and the state itself, which has room for an open reading, is not made.
+ghost use mathlib.Core.List.{List};
+ghost use mathlib.Core.Path.{_≡_};
+ghost use Prim.Native.Nat.{ℕ, _-_, _≤_};
+ghost use lib.ListN.{length, replicate};
+ghost use Rattle.basics.specs.Put.{putAll};
+ghost use Rattle.state.specs.declared.State.the-variants as state;
+ghost use Rattle.state.specs.Calls.{startOf};
+ghost use Rattle.whole.specs.Views.{endingOut};
+ghost use Rattle.mazurlot.specs.Calls.{call, read};
+ghost use Rattle.numbered.specs.Numbers.{stateNumbers, numbersOf};
+use crate::answers::SHORT_WORK;
+use crate::answers::brand_bytes;
+use crate::answers::say;
+use feed::start;
+use machine::Refusal;
+use pack::STATE_NUMBERS;
+use pack::pack;
+use state::Top;
+use whole::Ending;
+
+// The tags of a refused and of an accepted state.
+const REFUSED: u64 = 3;
+
+const ACCEPTED: u64 = 4;
+
+// About half of the places.
+const HALF: usize = 32;
+
+// The places from one up to another made 0.
+fn clear(numbers: &mut [u64], from: usize, to: usize)
+    requires { ⌜ (length (now numbers) ≡ stateNumbers) × (from ≤ to) × (to ≤ stateNumbers) ⌝ }
+    ensures { λ _. ⌜ now (numbers .exit) ≡ putAll (now (numbers .entry)) from (replicate (to - from) 0) ⌝ }
+{
+    let mut i = from;
+    while i < to {
+        numbers[i] = 0;
+        i += 1;
+    }
+}
+
+// Zeros are put before and after the numbers: so many at once that each time the compiler needs no call for them.
+pub fn put_accepted(numbers: &mut [u64], count: u64, leaves: u64, top: Top)
+    requires { ⌜ length (now numbers) ≡ stateNumbers ⌝ }
+    ensures { λ _. ⌜ now (numbers .exit) ≡ numbersOf (state.Accepted count leaves top) ⌝ }
+{
+    clear(numbers, HALF, STATE_NUMBERS);
+    numbers[0] = ACCEPTED;
+    numbers[1] = count;
+    numbers[2] = leaves;
+    numbers[3] = top.id;
+    numbers[4] = top.scale;
+    numbers[5] = top.start;
+    numbers[6] = top.durations;
+    clear(numbers, 7, HALF);
+}
+
+pub fn put_refused(numbers: &mut [u64], count: u64, leaves: u64, x: Refusal)
+    requires { ⌜ length (now numbers) ≡ stateNumbers ⌝ }
+    ensures { λ _. ⌜ now (numbers .exit) ≡ numbersOf (state.Refused count leaves x) ⌝ }
+{
+    clear(numbers, HALF, STATE_NUMBERS);
+    numbers[0] = REFUSED;
+    numbers[1] = count;
+    numbers[2] = leaves;
+    numbers[3] = x.number;
+    numbers[4] = x.place;
+    clear(numbers, 5, HALF);
+}
+
+pub fn put_start(numbers: &mut [u64], brand: u32)
+    requires { ⌜ length (now numbers) ≡ stateNumbers ⌝ }
+    ensures { λ _. ⌜ now (numbers .exit) ≡ numbersOf (startOf brand) ⌝ }
+{
+    pack(start(brand_bytes(brand)), numbers);
+}
+
+// What the whole reader says and leaves where its reading ended so.
+pub fn say_ending(ending: Ending, brand: u32, numbers: &mut [u64], answer: &mut [u64]) -> u64
+    requires { ⌜ (length (now numbers) ≡ stateNumbers) × (1 ≤ length (now answer)) ⌝ }
+    ensures { λ r. ⌜
+        ((work table : List ℕ) →
+        call r (now (answer .exit)) (now (numbers .exit)) work table ≡ read (endingOut brand work table ending) (now (answer .entry)))
+        ⌝ }
+{
+    match ending {
+        Ending::Accepted(count, leaves, top) => {
+            put_accepted(numbers, count, leaves, top);
+            say(0, leaves, answer)
+        }
+        Ending::Refused(count, leaves, x) => {
+            put_refused(numbers, count, leaves, x);
+            say(x.number, x.place, answer)
+        }
+        Ending::ShortWork => {
+            put_start(numbers, brand);
+            say(SHORT_WORK, 0, answer)
+        }
+    }
+}
