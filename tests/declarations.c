@@ -335,6 +335,7 @@ static void check_places(void)
     CHECK(record[MAZURLOT_RECORD_DURATION] == 3000 && answer[MAZURLOT_RECORD_DURATION] == 3000);
     CHECK(record[MAZURLOT_RECORD_SAP] == 2415919104 && answer[MAZURLOT_RECORD_SAP] == 2415919104);
     CHECK(record[MAZURLOT_RECORD_DECODE] == 2100 && answer[MAZURLOT_RECORD_DECODE] == 2100);
+    CHECK(lent.state[MAZURLOT_STATE_LEAVES] == 2 && lent.state[MAZURLOT_STATE_TIMESCALE] == 1000);
     CHECK(lent.answer[MAZURLOT_ANSWER_LEAF] == 2);
     CHECK(lent.answer[MAZURLOT_ANSWER_PAGE] == 0xfedcba98u);
 }

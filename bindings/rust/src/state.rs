@@ -17,7 +17,7 @@ use std::fmt;
 #[derive(Clone, PartialEq, Eq)]
 pub struct State([u64; STATE_NUMBERS]);
 
-/// Where numbers of an accepted state stand: docs/STATE.md, "The state as numbers".
+/// Where numbers of an accepted state stand, as the header names them.
 const LEAVES: usize = 2;
 const TIMESCALE: usize = 4;
 

@@ -4,6 +4,7 @@ use mazurlot::{Reason, MOST_LEAVES, MSDH, RECORD_NUMBERS, STATE_NUMBERS, WORK_BY
 
 const HEADER: &str = include_str!("../../../include/mazurlot.h");
 const SYS: &str = include_str!("../src/sys.rs");
+const STATE: &str = include_str!("../src/state.rs");
 
 /// Name, value and comment of each line that defines a name as a number.
 fn defined() -> Vec<(&'static str, u64, &'static str)> {
@@ -38,6 +39,9 @@ fn lengths_are_those_of_the_header() {
     assert_eq!(value("WORK_BYTES"), Some(WORK_BYTES));
     assert_eq!(value("RECORD_NUMBERS"), Some(RECORD_NUMBERS));
     assert_eq!(value("MOST_LEAVES"), Some(MOST_LEAVES));
+    for (name, value) in [("LEAVES", value("STATE_LEAVES")), ("TIMESCALE", value("STATE_TIMESCALE"))] {
+        assert!(STATE.contains(&format!("const {name}: usize = {};", value.unwrap())), "{name}");
+    }
     assert!(HEADER.contains("#define MAZURLOT_BRAND_MSDH MAZURLOT_BRAND('m', 's', 'd', 'h')"));
     assert_eq!(MSDH, *b"msdh");
 }

@@ -1,11 +1,10 @@
 // The states that the library makes itself: a reading before its first byte, and one that has ended. The numbers of the latter are few: the rest
 // of the 57 is made 0, and the state itself, which has room for an open reading, is not made.
-ghost use mathlib.Core.List.{List};
+ghost use mathlib.Core.List.{List, _∷_};
 ghost use mathlib.Core.Path.{_≡_};
 ghost use Prim.Native.Nat.{ℕ, _-_, _≤_};
 ghost use lib.ListN.{length, replicate};
 ghost use Rattle.basics.specs.Put.{putAll};
-ghost use Rattle.state.specs.declared.State.the-variants as state;
 ghost use Rattle.state.specs.Calls.{startOf};
 ghost use Rattle.whole.specs.Views.{endingOut};
 ghost use Rattle.mazurlot.specs.Calls.{call, read};
@@ -14,10 +13,8 @@ use crate::answers::SHORT_WORK;
 use crate::answers::brand_bytes;
 use crate::answers::say;
 use feed::start;
-use machine::Refusal;
 use pack::STATE_NUMBERS;
 use pack::pack;
-use state::Top;
 use whole::Ending;
 
 // The tags of a refused and of an accepted state.
@@ -40,33 +37,21 @@ fn clear(numbers: &mut [u64], from: usize, to: usize)
     }
 }
 
-// Zeros are put before and after the numbers: so many at once that each time the compiler needs no call for them.
-pub fn put_accepted(numbers: &mut [u64], count: u64, leaves: u64, top: Top)
+// The numbers of a reading that has ended: seven, and zeros behind them. Zeros are put before the numbers and after them, so many at once
+// that the compiler needs no call for either.
+fn put_ended(numbers: &mut [u64], tag: u64, count: u64, leaves: u64, a: u64, b: u64, c: u64, d: u64)
     requires { ⌜ length (now numbers) ≡ stateNumbers ⌝ }
-    ensures { λ _. ⌜ now (numbers .exit) ≡ numbersOf (state.Accepted count leaves top) ⌝ }
+    ensures { λ _. ⌜ now (numbers .exit) ≡ tag ∷ count ∷ leaves ∷ a ∷ b ∷ c ∷ d ∷ replicate 50 0 ⌝ }
 {
     clear(numbers, HALF, STATE_NUMBERS);
-    numbers[0] = ACCEPTED;
+    numbers[0] = tag;
     numbers[1] = count;
     numbers[2] = leaves;
-    numbers[3] = top.id;
-    numbers[4] = top.scale;
-    numbers[5] = top.start;
-    numbers[6] = top.durations;
+    numbers[3] = a;
+    numbers[4] = b;
+    numbers[5] = c;
+    numbers[6] = d;
     clear(numbers, 7, HALF);
-}
-
-pub fn put_refused(numbers: &mut [u64], count: u64, leaves: u64, x: Refusal)
-    requires { ⌜ length (now numbers) ≡ stateNumbers ⌝ }
-    ensures { λ _. ⌜ now (numbers .exit) ≡ numbersOf (state.Refused count leaves x) ⌝ }
-{
-    clear(numbers, HALF, STATE_NUMBERS);
-    numbers[0] = REFUSED;
-    numbers[1] = count;
-    numbers[2] = leaves;
-    numbers[3] = x.number;
-    numbers[4] = x.place;
-    clear(numbers, 5, HALF);
 }
 
 pub fn put_start(numbers: &mut [u64], brand: u32)
@@ -86,11 +71,20 @@ pub fn say_ending(ending: Ending, brand: u32, numbers: &mut [u64], answer: &mut 
 {
     match ending {
         Ending::Accepted(count, leaves, top) => {
-            put_accepted(numbers, count, leaves, top);
+            put_ended(
+                numbers,
+                ACCEPTED,
+                count,
+                leaves,
+                top.id,
+                top.scale,
+                top.start,
+                top.durations,
+            );
             say(0, leaves, answer)
         }
         Ending::Refused(count, leaves, x) => {
-            put_refused(numbers, count, leaves, x);
+            put_ended(numbers, REFUSED, count, leaves, x.number, x.place, 0, 0);
             say(x.number, x.place, answer)
         }
         Ending::ShortWork => {

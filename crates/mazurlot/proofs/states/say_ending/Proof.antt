@@ -1,5 +1,6 @@
 -- `mazurlot::states::say_ending` meets its contract, by those of the functions that put a state and of `say`, and by the definitions of `endingOut`
 -- and `ofFinish`.
+use Rattle.numbered.specs.Numbers.{usedNumbers, padded}
 use Rattle.whole.specs.Views.{endingOut}
 use Rattle.mazurlot.specs.Answers.{ofFinish}
 use Rattle.mazurlot.proofs.Laws.{same-call}
@@ -8,18 +9,18 @@ use Rattle.mazurlot.proofs.states.say_ending.Statement.{statement}
 use Rattle.mazurlot.proofs.states.say_ending.Tie as tie
 
 returns : tie.Need-returns
-unfolding endingOut ofFinish
+unfolding endingOut ofFinish usedNumbers padded
 returns c work table =
     let said = c .before .before in
     let put = said .before .before .before .before in
-    rw (put .before .before .before .ending .given .1) (same-call (said .say .ensures .0) (said .say .ensures .1) (put .put-accepted .ensures))
+    rw (put .before .before .before .ending .given .1) (same-call (said .say .ensures .0) (said .say .ensures .1) (put .put-ended .ensures))
 
 returns-2 : tie.Need-returns-2
-unfolding endingOut ofFinish
+unfolding endingOut ofFinish usedNumbers padded
 returns-2 c work table =
     let said = c .before .before in
     let put = said .before .before .before .before in
-    rw (put .before .before .before .ending2 .given .1) (same-call (said .say2 .ensures .0) (said .say2 .ensures .1) (put .put-refused .ensures))
+    rw (put .before .before .before .ending2 .given .1) (same-call (said .say2 .ensures .0) (said .say2 .ensures .1) (put .put-ended2 .ensures))
 
 returns-3 : tie.Need-returns-3
 unfolding endingOut ofFinish
