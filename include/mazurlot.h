@@ -23,13 +23,17 @@
  * - State, work area and table belong together: between start and finish lend the same three, and do not write into them. If you do, the
  *   calls stay safe, and answer by what they find.
  *
+ * How long. The library keeps no pointer. A piece or a segment is needed only during its call, the work area until finish or whole returns,
+ * state and table as long as times are looked up.
+ *
  * What is written. Where a call returns 2, nothing. Else `answer` has what is answered, or for a refusal its place; what lies behind the
  * numbers named below stays as it was. State, work area and table are as the reading leaves them, after a refusal too: a refusal from 3 to
  * 21 is kept in the state, and every later feed or finish gives it again; after 22 to 26 all three are as they were. So they are after 1
  * where feed returns it; whole leaves the state of a start then.
  *
  * Where several refusals could be given: an answer that is too short goes first (2), and for whole a state that has not 57 numbers; then a
- * work area that is too small (1); then numbers that are no state (2); then a kept refusal, 22, and what the bytes or the time show.
+ * work area that is too small (1); then numbers that are no state (2); then a kept refusal, 22, and what the bytes show, or for a lookup 22,
+ * 25, 26, and then 23 or 24.
  */
 #ifndef MAZURLOT_H
 #define MAZURLOT_H
@@ -49,7 +53,7 @@ extern "C" {
 #define MAZURLOT_STATE_LEAVES 2
 #define MAZURLOT_STATE_TIMESCALE 4
 
-/* A leaf takes so many numbers of the table. A table of 6 * n numbers has room for n leaves, of 4,096 at most. */
+/* A leaf takes so many numbers of the table. A table of 6 * n numbers has room for n leaves, for 4,096 at most. */
 #define MAZURLOT_RECORD_NUMBERS 6
 #define MAZURLOT_MOST_LEAVES 4096
 
@@ -74,7 +78,8 @@ extern "C" {
 #define MAZURLOT_ANSWER_PAGE 7   /* of a mark: its page, with a refusal too */
 
 /* The brand that the segment's styp has to list, as the number that its four bytes spell. */
-#define MAZURLOT_BRAND(a, b, c, d) ((uint32_t)(a) << 24 | (uint32_t)(b) << 16 | (uint32_t)(c) << 8 | (uint32_t)(d))
+#define MAZURLOT_BRAND(a, b, c, d) \
+    ((uint32_t)(uint8_t)(a) << 24 | (uint32_t)(uint8_t)(b) << 16 | (uint32_t)(uint8_t)(c) << 8 | (uint8_t)(d))
 #define MAZURLOT_BRAND_MSDH MAZURLOT_BRAND('m', 's', 'd', 'h')
 
 /* The refusals. Those from 3 to 21 are about the segment, and are kept. */
@@ -117,7 +122,7 @@ uint64_t mazurlot_feed(const uint8_t *piece, size_t piece_bytes, uint64_t *state
                        uint64_t *table, size_t table_numbers, uint64_t *answer, size_t answer_numbers);
 
 /*
- * The segment has no more bytes. Answers how many leaves are listed.
+ * The segment has no more bytes. Answers how many leaves are listed. Not before the last byte is fed: a refusal with 20 is kept.
  */
 uint64_t mazurlot_finish(uint64_t *state, size_t state_numbers, uint64_t *answer, size_t answer_numbers);
 

@@ -419,6 +419,7 @@ static void check_brand(void)
     lend(s, S_BYTES);
     memcpy(lent.segment + 16, listed, sizeof listed);
     CHECK(MAZURLOT_BRAND_MSDH == 0x6d736468u);
+    CHECK(MAZURLOT_BRAND('a', '\xa9', 'b', '\xfe') == 0x61a962feu);
     CHECK(whole(MAZURLOT_BRAND(0x81, 0x92, 0xa3, 0xf4), S_BYTES, fitting) == 0);
     CHECK(whole(MAZURLOT_BRAND(0xf4, 0xa3, 0x92, 0x81), S_BYTES, fitting) == MAZURLOT_BRAND_NOT_LISTED);
     CHECK(whole(MAZURLOT_BRAND_MSDH, S_BYTES, fitting) == MAZURLOT_BRAND_NOT_LISTED);

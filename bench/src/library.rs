@@ -4,6 +4,7 @@ use bench::plain::lookup::Found;
 use bench::plain::{Leaf, Listing, Refusal, MOST_LEAVES};
 
 const STATE_NUMBERS: usize = 57;
+const STATE_TIMESCALE: usize = 4;
 const WORK_BYTES: usize = 49_152;
 const RECORD_NUMBERS: usize = 6;
 const LOOKUP_NUMBERS: usize = 7;
@@ -145,12 +146,17 @@ impl Library {
         self.answer[0]
     }
 
-    /// What a reading has come to. The timescale is no part of the answer, and is taken from the plain reader's.
-    pub fn listing(&self, number: u64, timescale: u32) -> Result<Listing, Refusal> {
+    /// What a reading has come to. The timescale is no part of the answer, and is read in the state.
+    pub fn listing(&self, number: u64) -> Result<Listing, Refusal> {
         match number {
-            0 => Ok(Listing { leaves: self.answered() as usize, timescale }),
+            0 => Ok(Listing { leaves: self.answered() as usize, timescale: self.state[STATE_TIMESCALE] as u32 }),
             _ => Err(Refusal { number: number as u32, place: self.answered() }),
         }
+    }
+
+    /// Forgets what was listed, so that what is found in the table afterwards was written since.
+    pub fn forget(&mut self) {
+        self.table.fill(0);
     }
 
     /// The records of so many leaves.

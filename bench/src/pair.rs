@@ -119,12 +119,12 @@ impl<'a> Pair<'a> {
         match (reader, call) {
             (Reader::Library, Call::Whole) => {
                 let number = measured::measured_whole_library(&mut self.library, segment);
-                Answer::Read(self.library.listing(number, self.listing.timescale))
+                Answer::Read(self.library.listing(number))
             }
             (Reader::Plain, Call::Whole) => Answer::Read(measured::measured_whole_plain(&mut self.leaves, segment)),
             (Reader::Library, Call::Feed(piece)) => {
                 let number = measured::measured_feed_library(&mut self.library, segment, piece);
-                Answer::Read(self.library.listing(number, self.listing.timescale))
+                Answer::Read(self.library.listing(number))
             }
             (Reader::Plain, Call::Feed(piece)) => {
                 Answer::Read(measured::measured_feed_plain(&mut self.leaves, &mut self.levels, segment, piece))
@@ -162,6 +162,13 @@ impl<'a> Pair<'a> {
                 let (sum, found) = measured::measured_seconds_plain(&self.leaves[..leaves], timescale, times);
                 Answer::Found(sum, found)
             }
+        }
+    }
+
+    /// Forgets the library's list, where the call makes one.
+    pub fn forget(&mut self, call: Call) {
+        if matches!(call, Call::Whole | Call::Feed(_)) {
+            self.library.forget();
         }
     }
 

@@ -15,6 +15,7 @@ pub fn times(pair: &mut Pair, call: Call) -> Result<(f64, f64), String> {
     let runs = (PASS.as_nanos() / begun.elapsed().as_nanos().max(1)).clamp(1, 20_000) as usize;
     let (mut library, mut plain) = (Vec::new(), Vec::new());
     for _ in 0..PASSES {
+        pair.forget(call);
         let (library_time, library_answer) = pass(pair, Reader::Library, call, runs);
         let (plain_time, plain_answer) = pass(pair, Reader::Plain, call, runs);
         if library_answer != plain_answer || !pair.same_leaves() {

@@ -9,8 +9,9 @@ fn main() {
     let folder = env::var_os("MAZURLOT_LIB_DIR").map_or_else(beside, PathBuf::from);
     let archive = folder.join("libmazurlot.a");
     println!("cargo::rerun-if-changed={}", archive.display());
-    if env::var("CARGO_CFG_TARGET_ARCH").as_deref() != Ok("x86_64") {
-        println!("cargo::error=libmazurlot.a links into x86-64 programs only: build with --target x86_64-unknown-linux-gnu");
+    let target = |part: &str| env::var(format!("CARGO_CFG_TARGET_{part}"));
+    if target("ARCH").as_deref() != Ok("x86_64") || target("OS").as_deref() != Ok("linux") {
+        println!("cargo::error=libmazurlot.a links into programs for x86-64 Linux only: build with --target x86_64-unknown-linux-gnu");
     }
     // The linker is run in another folder than this program, so it is given the whole path.
     let Ok(folder) = folder.canonicalize().and_then(|folder| archive.metadata().map(|_| folder)) else {

@@ -164,11 +164,12 @@ impl<T: AsRef<[u64]>> List<T> {
     /// # Ok::<(), mazurlot::Refusal>(())
     /// ```
     pub fn resolve(&self, mark: Mark) -> Resolved {
-        // The page stands behind the lookup's answer. Where nothing is written, it is there already.
-        let mut answer = [0, 0, 0, 0, 0, 0, 0, u64::from(mark.page)];
+        let mut answer = [0; 2 + RECORD_NUMBERS];
         let number = sys::resolve(mark.page, mark.seconds, self.state.numbers(), self.table.as_ref(), &mut answer);
         let [lookup @ .., page] = &answer;
-        Resolved { page: *page as u32, leaf: found(number, lookup) }
+        // The page stands behind the lookup's answer, but for a refusal with 2, which writes nothing.
+        let page = if number == Reason::NoState.number() { mark.page } else { *page as u32 };
+        Resolved { page, leaf: found(number, lookup) }
     }
 }
 

@@ -5,13 +5,15 @@ use std::fmt;
 
 /// A refusal: its number, as a [`Reason`], and its place.
 ///
+/// A number that this crate does not know can come only from an archive of another version. It is no refusal then, and the call panics.
+///
 /// ```
 /// use mazurlot::{whole, Reason, MSDH};
 ///
 /// let refusal = whole(MSDH, b"<html>not found</html>", 256).unwrap_err();
 /// assert_eq!((refusal.reason, refusal.place), (Reason::BoxTooLong, 0));
 /// assert_eq!(refusal.reason.number(), 5);
-/// assert_eq!(refusal.to_string(), "A box ends past what it stands in, or too few bytes remain for a box.");
+/// assert_eq!(refusal.to_string(), "refused with 5 at place 0: A box ends past what it stands in, or too few bytes remain for a box.");
 /// ```
 #[derive(Clone, Copy, Debug, PartialEq, Eq, Hash)]
 pub struct Refusal {
@@ -34,7 +36,7 @@ impl Refusal {
 
 impl fmt::Display for Refusal {
     fn fmt(&self, f: &mut fmt::Formatter<'_>) -> fmt::Result {
-        self.reason.fmt(f)
+        write!(f, "refused with {} at place {}: {}", self.reason.number(), self.place, self.reason)
     }
 }
 

@@ -17,10 +17,13 @@ fn low(n: u64) -> u32 {
     (n % 4294967296) as u32
 }
 
-// A mark's page stands in its answer also where nothing is written.
+// A mark's page is told also where 2 was given back, and so nothing written.
 fn mark_call(seconds: u64, page: u64, state: &[u64], table: &[u64], answer: &mut [u64; 8]) -> u64 {
-    answer[7] = low(page) as u64;
-    mazurlot_resolve(low(page), double_of(seconds), state, table, answer)
+    let number = mazurlot_resolve(low(page), double_of(seconds), state, table, answer);
+    if number == 2 {
+        answer[7] = low(page) as u64;
+    }
+    number
 }
 
 // The call of a command, by its kind: the number that it gives back.

@@ -21,7 +21,9 @@ clear-more old from i h =
     let long : length zeros ≡ i - from = length-replicate (i - from) 0 in
     let at : i ≡ from + length zeros = omega (arith, long) in
     let more : suc (i - from) ≡ i + 1 - from = omega arith in
-    ap (λ (n : ℕ). set (putAll old from zeros) n 0) at ∙ put-more old from zeros (0 ∷ []) ∙ ap (λ (l : List ℕ). putAll old from l) (one-more (i - from) ∙ ap (λ (n : ℕ). replicate n 0) more)
+    ap (λ (n : ℕ). set (putAll old from zeros) n 0) at
+    ∙ put-more old from zeros (0 ∷ [])
+    ∙ ap (λ (l : List ℕ). putAll old from l) (one-more (i - from) ∙ ap (λ (n : ℕ). replicate n 0) more)
 
 -- what was put up to the end stands there
 put-last : (list : List ℕ) (i : ℕ) (xs : List ℕ) → i + length xs ≡ length list → drop i (putAll list i xs) ≡ xs

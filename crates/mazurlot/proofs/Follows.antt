@@ -1,5 +1,5 @@
--- The library's calls one after the other are the calls inside: what one leaves in the state slice reads as the state that the call inside
--- leaves, and the next call goes on from it.
+-- The library's calls one after the other are the calls inside: what start, feed, finish and the whole reader leave in the state slice reads as
+-- the state that the call inside leaves, and the next call goes on from it.
 use Prim.Native.Nat.{ℕ, _≤_}
 use mathlib.Core.Path.{_≡_, refl, ap, _∙_}
 use mathlib.Core.List.{List}
@@ -11,14 +11,16 @@ use Rattle.basics.specs.Bytes.{AllBytes}
 use Rattle.basics.specs.Choose.{pick}
 use Rattle.state.specs.declared.State.{State}
 use Rattle.state.specs.Ranges.{InRange}
-use Rattle.state.specs.Calls.{startOf, feedOf, finishOf}
+use Rattle.state.specs.declared.FeedAnswer.{FeedAnswer}
+use Rattle.state.specs.declared.FeedAnswer.the-variants as feeds
+use Rattle.state.specs.Calls.{startOf, feedOf, finishOf, finishAfter, wholeOf}
 use Rattle.state.proofs.RangeTests.{in-range}
 use Rattle.state.proofs.Ranges.{start-in-range, feed-in-range, finish-in-range}
 use Rattle.numbered.specs.Numbers.{stateNumbers, numbersOf}
 use Rattle.numbered.specs.Unpacked.{unpackOf}
 use Rattle.numbered.proofs.Unpacks.{unpack-packed, unpacked-is}
 use Rattle.mazurlot.specs.Answers.{oneValue}
-use Rattle.mazurlot.specs.Calls.{Call, startCall, fedFrom, feedCall, finishedFrom, finishCall}
+use Rattle.mazurlot.specs.Calls.{Call, startCall, fedFrom, feedCall, finishedFrom, finishCall, wholeCall}
 
 -- a state inside the ranges is read back from its numbers
 back : (s : State) → InRange s → unpackOf (numbersOf s) ≡ some s
@@ -41,3 +43,17 @@ module _ (ns slot : List ℕ) (s : State) (is : unpackOf ns ≡ some s) (room : 
   pub finish-follows : unpackOf (finishCall ns slot .state) ≡ some (finishOf s .state)
   unfolding finishCall finishedFrom pick
   finish-follows = rw (le-ltb (length slot) oneValue room, is) (back (finishOf s .state) (finish-in-range s inside))
+
+-- the state after a whole reading: that of its feed, or of finish after it
+whole-inside : (brand : ℕ) (segment work table : List ℕ) → AllBytes segment → (a : FeedAnswer) → InRange (finishAfter (feedOf (startOf brand) segment work table) a .state)
+unfolding finishAfter
+whole-inside brand segment work table bytes (feeds.Read n) =
+    finish-in-range (feedOf (startOf brand) segment work table .state) (feed-in-range (startOf brand) segment work table bytes (start-in-range brand))
+whole-inside brand segment work table bytes (feeds.Refused x) = feed-in-range (startOf brand) segment work table bytes (start-in-range brand)
+
+pub whole-follows : (brand : ℕ) (segment ns work table slot : List ℕ) → AllBytes segment → length ns ≡ stateNumbers → oneValue ≤ length slot →
+    unpackOf (wholeCall brand segment ns work table slot .state) ≡ some (wholeOf brand segment work table .state)
+unfolding wholeCall pick
+whole-follows brand segment ns work table slot bytes long room =
+    rw (le-ltb (length slot) oneValue room, eq-eqb (length ns) stateNumbers long)
+    (back (wholeOf brand segment work table .state) (whole-inside brand segment work table bytes (feedOf (startOf brand) segment work table .answer)))

@@ -1,6 +1,5 @@
 -- The calls of the library, over numbers: the number that each gives back, and what then stands in what was lent to it.
--- "A state slice of the wrong length or with numbers outside the ranges is refused with 2, an answer slot that is too short likewise, and nothing
--- is written" (docs/DECISIONS.md, D26).
+-- 2 says that there is no state, or no place for one or for the answer, and then nothing is written (docs/DECISIONS.md, D26).
 use Prim.Native.Nat.{ℕ}
 use mathlib.Core.List.{List, [], _∷_}
 use mathlib.Core.Option.{Option, some, none}

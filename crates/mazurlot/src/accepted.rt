@@ -7,6 +7,8 @@ ghost use Rattle.numbered.specs.Unpacked.{unpackOf};
 ghost use Rattle.lookup.specs.Spots.{Spots};
 ghost use Rattle.mazurlot.specs.Calls.{lookFrom};
 ghost use Rattle.mazurlot.specs.Accepted.{zerosBehind, acceptedNumbers, refusedWith};
+use crate::states::ACCEPTED;
+use crate::states::USED;
 use lookup::Spot;
 use lookup::look_accepted;
 use moment::Request;
@@ -14,11 +16,6 @@ use pack::STATE_NUMBERS;
 use pack::Unpacked;
 use pack::unpack;
 use state::Top;
-
-// The tag of an accepted state, and how many numbers it uses.
-const ACCEPTED: u64 = 4;
-
-const USED: usize = 7;
 
 // Refused: the state is not accepted.
 const NOT_FINISHED: u64 = 22;

@@ -20,7 +20,6 @@ use crate::states::put_start;
 use crate::states::say_ending;
 use feed::feed;
 use feed::finish;
-use marks::Mark;
 use moment::Request;
 use pack::STATE_NUMBERS;
 use pack::Unpacked;

@@ -20,7 +20,10 @@ use whole::Ending;
 // The tags of a refused and of an accepted state.
 const REFUSED: u64 = 3;
 
-const ACCEPTED: u64 = 4;
+pub const ACCEPTED: u64 = 4;
+
+// How many numbers an accepted state uses, and a refused one at most.
+pub const USED: usize = 7;
 
 // About half of the places.
 const HALF: usize = 32;
@@ -37,8 +40,8 @@ fn clear(numbers: &mut [u64], from: usize, to: usize)
     }
 }
 
-// The numbers of a reading that has ended: seven, and zeros behind them. Zeros are put before the numbers and after them, so many at once
-// that the compiler needs no call for either.
+// The numbers of a reading that has ended: seven, and zeros behind them. First the far half is cleared, then the numbers are put, then the
+// rest is cleared: each time it is so little that the compiler needs no call for it.
 fn put_ended(numbers: &mut [u64], tag: u64, count: u64, leaves: u64, a: u64, b: u64, c: u64, d: u64)
     requires { ⌜ length (now numbers) ≡ stateNumbers ⌝ }
     ensures { λ _. ⌜ now (numbers .exit) ≡ tag ∷ count ∷ leaves ∷ a ∷ b ∷ c ∷ d ∷ replicate 50 0 ⌝ }
@@ -51,7 +54,7 @@ fn put_ended(numbers: &mut [u64], tag: u64, count: u64, leaves: u64, a: u64, b: 
     numbers[4] = b;
     numbers[5] = c;
     numbers[6] = d;
-    clear(numbers, 7, HALF);
+    clear(numbers, USED, HALF);
 }
 
 pub fn put_start(numbers: &mut [u64], brand: u32)

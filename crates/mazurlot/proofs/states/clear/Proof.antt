@@ -41,5 +41,6 @@ returns c =
 pub clear-spec : {M : Type 1} → statement M
 clear-spec =
     tie.close
-    (tie.spec Inv-loop μ-loop loop-holds (λ c. search needs) (λ c. let inv = c .before .loop .inv in let long = c .before .before .pre .0 in omega arith) (λ c. omega arith) (λ c. omega arith) loop-again
+    (tie.spec Inv-loop μ-loop loop-holds (λ c. search needs)
+    (λ c. let inv = c .before .loop .inv in let long = c .before .before .pre .0 in omega arith) (λ c. omega arith) (λ c. omega arith) loop-again
     (λ c. c .before .loop .inv .2) returns)

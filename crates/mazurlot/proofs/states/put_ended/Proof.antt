@@ -12,7 +12,7 @@ use borrow.Author.Needs.{needs}
 use Rattle.mazurlot.proofs.states.put_ended.Statement.{statement}
 use Rattle.mazurlot.proofs.states.put_ended.Tie as tie
 
--- the numbers are as many after the first half was made 0
+-- the numbers are as many after the far half was made 0
 many : (c : tie.After-clear) → length (c .clear .last .0) ≡ stateNumbers
 many c = let start = c .before .before .before in ap (λ (l : List ℕ). length l) (c .clear .ensures) ∙ put-length (start .args .numbers .now) 32 (replicate 25 0) ∙ start .pre
 
@@ -33,8 +33,15 @@ same-length c =
     let start = c .before .before .before .before .before .before .before .before .before in
     ap (λ (l : List ℕ). length l) (returns c) ∙ sym (start .pre)
 
+-- the next store lies inside: each store leaves the numbers as many as they were
 pub put-ended-spec : {M : Type 1} → statement M
 put-ended-spec =
     tie.close
-    (tie.spec (search needs) (λ c. let long = many (c .before .before) in omega arith) (λ c. let long = many (c .before .before) in simp length-set (omega arith)) (λ c. let long = many (c .before .before) in simp length-set (omega arith)) (λ c. let long = many (c .before .before) in simp length-set (omega arith)) (λ c. let long = many (c .before .before) in simp length-set (omega arith)) (λ c. let long = many (c .before .before) in simp length-set (omega arith)) (λ c. let long = many (c .before .before) in simp length-set (omega arith))
+    (tie.spec (search needs) (λ c. let long = many (c .before .before) in omega arith)
+    (λ c. let long = many (c .before .before) in simp length-set (omega arith))
+    (λ c. let long = many (c .before .before) in simp length-set (omega arith))
+    (λ c. let long = many (c .before .before) in simp length-set (omega arith))
+    (λ c. let long = many (c .before .before) in simp length-set (omega arith))
+    (λ c. let long = many (c .before .before) in simp length-set (omega arith))
+    (λ c. let long = many (c .before .before) in simp length-set (omega arith))
     (λ c κs. let long = many (c .before .before .before) in (simp length-set (omega arith), omega arith, omega arith)) same-length returns)
