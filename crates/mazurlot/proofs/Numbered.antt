@@ -2,7 +2,7 @@
 use Prim.Native.Nat.{ℕ, zero, suc, _+_, _≤_, _<_}
 use mathlib.Core.Path.{_≡_, refl, sym, ap, _∙_}
 use mathlib.Core.List.{List, [], _∷_, _++_}
-use mathlib.Core.Bool.{Bool, true, false, _&&_, false≢true}
+use mathlib.Core.Bool.{Bool, true, false, _&&_, false≢true, and-true, and-assoc}
 use mathlib.Core.Option.{Option, some, none}
 use native.Mathlib.Omega.{arith}
 use lib.Dec.{eqb}
@@ -32,21 +32,13 @@ use Rattle.mazurlot.specs.Calls.{lookFrom}
 abbrev pub Rest : List ℕ → Bool → ℕ → Type 0
 Rest ns z i = zerosBehind ns ≡ (z && sameNumbers (drop i (replicate stateNumbers 0)) (drop i ns))
 
-and-three : (a b c : Bool) → (a && (b && c)) ≡ ((a && b) && c)
-and-three true b c = refl
-and-three false b c = refl
-
-and-true : (a : Bool) → (a && true) ≡ a
-and-true true = refl
-and-true false = refl
-
 module _ (ns : List ℕ) (z : Bool) (i : ℕ) (rest : Rest ns z i) (long : length ns ≡ stateNumbers) where
   pub next-place : i < stateNumbers → Rest ns (z && eqb 0 (getD ns i 0)) (i + 1)
   next-place h =
       let more = same-more (replicate stateNumbers 0) ns i (rw (length-replicate {A = ℕ} stateNumbers 0) h) (rw long h) in
       let zero-here : _≡_ {A = ℕ} (getD (replicate stateNumbers 0) i 0) 0 = getD-replicate stateNumbers i 0 0 h in
       rest ∙ ap (λ (b : Bool). z && b) (more ∙ ap (λ (n : ℕ). eqb n (getD ns i 0) && sameNumbers (drop (i + 1) (replicate stateNumbers 0)) (drop (i + 1) ns)) zero-here)
-      ∙ and-three z (eqb 0 (getD ns i 0)) _
+      ∙ sym (and-assoc z (eqb 0 (getD ns i 0)) _)
 
   pub last-place : stateNumbers ≤ i → z ≡ zerosBehind ns
   last-place h =

@@ -9,7 +9,6 @@ use mathlib.Core.Logic.{_⊎_, inl, inr}
 use native.Mathlib.Omega.{arith}
 use lib.Dec.{ltb, eqb}
 use lib.ListN.{length}
-use borrow.Author.Tests.{eq-eqb}
 use Rattle.basics.specs.Bytes.{AllBytes}
 use Rattle.basics.specs.Choose.{pick}
 use Rattle.machine.specs.Faults.{refusal}
@@ -30,16 +29,13 @@ use Rattle.state.proofs.NeverGiven.{feed-not-two, finish-not-two}
 use Rattle.numbered.specs.Numbers.{stateNumbers}
 use Rattle.numbered.specs.Unpacked.{unpackOf}
 use Rattle.numbered.proofs.Unpacks.{unpacked-is}
+use Rattle.mazurlot.proofs.Laws.{two-writes-nothing}
 use Rattle.mazurlot.specs.Answers.{Said, said, ofFeed, ofFinish, slotAfter, oneValue, lookupValues, markValues}
 use Rattle.mazurlot.specs.Calls.{Call, call, saying, startCall, fedFrom, feedCall, finishedFrom, finishCall, wholeCall, lookupCall, resolveCall}
 
 -- what says 2 leaves the slot as it was
-slot-stays : (s : Said) (slot : List ℕ) → s .number ≡ 2 → slotAfter s slot ≡ slot
-unfolding slotAfter pick
-slot-stays s slot e = rw (eq-eqb (s .number) 2 e)
-
 saying-two : (s : Said) (slot ns work table : List ℕ) → s .number ≡ 2 → saying s slot ns work table ≡ call 2 slot ns work table
-saying-two s slot ns work table e = ap (λ (n : ℕ). call n (slotAfter s slot) ns work table) e ∙ ap (λ (l : List ℕ). call 2 l ns work table) (slot-stays s slot e)
+saying-two s slot ns work table e = ap (λ (n : ℕ). call n (slotAfter s slot) ns work table) e ∙ ap (λ (l : List ℕ). call 2 l ns work table) (sym (two-writes-nothing (s .number) (s .values) slot e))
 
 -- an answer of feed or finish that is no refusal with 2 says another number
 feed-says : (a : FeedAnswer) → ((x : Refusal) → a ≡ feeds.Refused x → x .number ≡ 2 → ⊥) → ofFeed a .number ≡ 2 → ⊥

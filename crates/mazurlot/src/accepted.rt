@@ -68,7 +68,7 @@ fn refused_with(numbers: &[u64]) -> u64
 }
 
 // Where the lookup ends in the list of the state that these numbers are.
-pub fn look(numbers: &[u64], table: &[u64], request: Request) -> Spot
+pub(crate) fn look(numbers: &[u64], table: &[u64], request: Request) -> Spot
     ensures { λ r. ⌜ Spots (now (table .entry)) (lookFrom (unpackOf (now (numbers .entry))) (now (table .entry)) request) r ⌝ }
 {
     if accepted_numbers(numbers) {

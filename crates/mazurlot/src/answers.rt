@@ -19,17 +19,17 @@ use table::NUMBERS;
 use table::Record;
 
 // How many numbers the answers have: of feed, finish and the whole reader; of a lookup; of a mark.
-pub const ONE_VALUE: usize = 1;
+pub(crate) const ONE_VALUE: usize = 1;
 
-pub const LOOKUP_VALUES: usize = 7;
+pub(crate) const LOOKUP_VALUES: usize = 7;
 
-pub const MARK_VALUES: usize = 8;
+pub(crate) const MARK_VALUES: usize = 8;
 
 // Refused: no state, or no room for one or for the answer. Nothing is written.
-pub const NO_STATE: u64 = 2;
+pub(crate) const NO_STATE: u64 = 2;
 
 // Refused: the work area is too short.
-pub const SHORT_WORK: u64 = 1;
+pub(crate) const SHORT_WORK: u64 = 1;
 
 const WORK_BYTES: usize = 49152;
 
@@ -47,7 +47,7 @@ const NO_RECORD: Record = Record {
 };
 
 // The four bytes that spell a brand.
-pub fn brand_bytes(brand: u32) -> [u8; 4]
+pub(crate) fn brand_bytes(brand: u32) -> [u8; 4]
     ensures { λ r. ⌜ number r ≡ brand ⌝ }
 {
     [
@@ -59,7 +59,7 @@ pub fn brand_bytes(brand: u32) -> [u8; 4]
 }
 
 // One value, unless the number is 2.
-pub fn say(n: u64, value: u64, answer: &mut [u64]) -> u64
+pub(crate) fn say(n: u64, value: u64, answer: &mut [u64]) -> u64
     requires { ⌜ 1 ≤ length (now answer) ⌝ }
     ensures { λ r. ⌜ (r ≡ n) × (now (answer .exit) ≡ slotAfter (said n (value ∷ [])) (now (answer .entry))) ⌝ }
 {
@@ -70,7 +70,7 @@ pub fn say(n: u64, value: u64, answer: &mut [u64]) -> u64
 }
 
 // What feed says of what is no state: 1 goes before 2.
-pub fn say_nothing_fed(work: usize, answer: &mut [u64]) -> u64
+pub(crate) fn say_nothing_fed(work: usize, answer: &mut [u64]) -> u64
     requires { ⌜ 1 ≤ length (now answer) ⌝ }
     ensures { λ r. ⌜ (r ≡ pick (ltb work workBytes) 1 2) × (now (answer .exit) ≡ slotAfter (said (pick (ltb work workBytes) 1 2) (0 ∷ [])) (now (answer .entry))) ⌝ }
 {
@@ -80,7 +80,7 @@ pub fn say_nothing_fed(work: usize, answer: &mut [u64]) -> u64
     NO_STATE
 }
 
-pub fn say_fed(said: FeedAnswer, answer: &mut [u64]) -> u64
+pub(crate) fn say_fed(said: FeedAnswer, answer: &mut [u64]) -> u64
     requires { ⌜ 1 ≤ length (now answer) ⌝ }
     ensures { λ r. ⌜ (r ≡ ofFeed said .number) × (now (answer .exit) ≡ slotAfter (ofFeed said) (now (answer .entry))) ⌝ }
 {
@@ -90,7 +90,7 @@ pub fn say_fed(said: FeedAnswer, answer: &mut [u64]) -> u64
     }
 }
 
-pub fn say_finished(said: FinishAnswer, answer: &mut [u64]) -> u64
+pub(crate) fn say_finished(said: FinishAnswer, answer: &mut [u64]) -> u64
     requires { ⌜ 1 ≤ length (now answer) ⌝ }
     ensures { λ r. ⌜ (r ≡ ofFinish said .number) × (now (answer .exit) ≡ slotAfter (ofFinish said) (now (answer .entry))) ⌝ }
 {
@@ -115,7 +115,7 @@ fn put_leaf(answer: &mut [u64], leaf: u64, r: Record)
 }
 
 // What a lookup says that ended at a spot of the table.
-pub fn say_found(spot: Spot, table: &[u64], answer: &mut [u64]) -> u64
+pub(crate) fn say_found(spot: Spot, table: &[u64], answer: &mut [u64]) -> u64
     requires { ⌜ (7 ≤ length (now answer)) × OnRecord (now table) spot ⌝ }
     ensures { λ r. ⌜
         (r ≡ ofLookup (answerAt (now (table .entry)) spot) .number)
@@ -138,7 +138,7 @@ pub fn say_found(spot: Spot, table: &[u64], answer: &mut [u64]) -> u64
 }
 
 // A mark's page, behind the answer of its lookup.
-pub fn say_page(number: u64, page: u32, answer: &mut [u64]) -> u64
+pub(crate) fn say_page(number: u64, page: u32, answer: &mut [u64]) -> u64
     requires { ⌜ 8 ≤ length (now answer) ⌝ }
     ensures { λ r. ⌜ (r ≡ number) × (now (answer .exit) ≡ pick (eqb number 2) (now (answer .entry)) (set (now (answer .entry)) 7 page)) ⌝ }
 {

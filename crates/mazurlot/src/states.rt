@@ -20,10 +20,10 @@ use whole::Ending;
 // The tags of a refused and of an accepted state.
 const REFUSED: u64 = 3;
 
-pub const ACCEPTED: u64 = 4;
+pub(crate) const ACCEPTED: u64 = 4;
 
 // How many numbers an accepted state uses, and a refused one at most.
-pub const USED: usize = 7;
+pub(crate) const USED: usize = 7;
 
 // About half of the places.
 const HALF: usize = 32;
@@ -57,7 +57,7 @@ fn put_ended(numbers: &mut [u64], tag: u64, count: u64, leaves: u64, a: u64, b: 
     clear(numbers, USED, HALF);
 }
 
-pub fn put_start(numbers: &mut [u64], brand: u32)
+pub(crate) fn put_start(numbers: &mut [u64], brand: u32)
     requires { ⌜ length (now numbers) ≡ stateNumbers ⌝ }
     ensures { λ _. ⌜ now (numbers .exit) ≡ numbersOf (startOf brand) ⌝ }
 {
@@ -65,7 +65,7 @@ pub fn put_start(numbers: &mut [u64], brand: u32)
 }
 
 // What the whole reader says and leaves where its reading ended so.
-pub fn say_ending(ending: Ending, brand: u32, numbers: &mut [u64], answer: &mut [u64]) -> u64
+pub(crate) fn say_ending(ending: Ending, brand: u32, numbers: &mut [u64], answer: &mut [u64]) -> u64
     requires { ⌜ (length (now numbers) ≡ stateNumbers) × (1 ≤ length (now answer)) ⌝ }
     ensures { λ r. ⌜
         ((work table : List ℕ) →
