@@ -8,7 +8,7 @@ const HEAD_BYTES: usize = 24;
 const FARTHEST: usize = 536870912;
 
 // A command's three numbers; 0 is no kind, and stands for the input's end.
-#[derive(Drop)]
+#[derive(Clone, Copy)]
 pub struct Command {
     pub kind: u64,
     pub a: u64,

@@ -1,4 +1,6 @@
 // Makes the calls that standard input asks for, and writes of each what it answered and what it changed: docs/BATCH.md says the form.
+#![tactic(auto)]
+
 ghost use Rattle.std.specs.Prelude.{◌≤◌, ◌≡◌, length};
 
 use crate::calls::{WORK_BYTES, call};
@@ -35,7 +37,7 @@ const HALF_WORK: usize = 65536;
 const HALF_TABLE: usize = 32768;
 
 // How much is lent as state, work area and leaf table; and whether there is a next command.
-#[derive(Drop)]
+#[derive(Clone, Copy)]
 struct Lent {
     state: usize,
     work: usize,

@@ -6,7 +6,7 @@ use cases_script::run_script;
 use cases_trial::prints::{print, print_number};
 
 // What a file's lines are.
-#[derive(Drop)]
+#[derive(Clone, Copy)]
 pub enum LineKind {
     // name, segment
     Made,

@@ -1,5 +1,7 @@
 // Runs document 01's cases, the vectors, real segments and scripts of calls, and prints a line for each: what the reader gives.
 // The file `stdout` has what document 01 asks for. A line has `differs` only where a reading in pieces is not that of the whole.
+#![tactic(auto)]
+
 mod lines;
 
 use cases_cuttings::{Tally, print_tally};

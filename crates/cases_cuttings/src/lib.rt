@@ -1,6 +1,8 @@
 // A segment fed in one piece, printed, and read again: by the whole reader, and in pieces, byte by byte, of three and of five bytes, so
 // that a number begins in one and goes on and ends in others, and in two pieces cut at every place where it is short.
 // Every reading starts with buffers that hold the same.
+#![tactic(auto)]
+
 ghost use Rattle.std.specs.Prelude.{◌≡◌, ◌+◌, min, true, ◌&&◌, ◌↔◌};
 ghost use Rattle.cases_data.specs.Lent.{lent_work, lent_table};
 ghost use Rattle.cases_cuttings.specs.Readings.{ReadIn, ReadWhole, ReadsAlike, CutAlike, PiecesAlike};
@@ -18,14 +20,14 @@ use feed::{feed, finish, start};
 const SHORT: usize = 512;
 
 // How many segments were read, and in how many ways again.
-#[derive(Drop)]
+#[derive(Clone, Copy)]
 pub struct Tally {
     pub segments: u64,
     pub cuttings: u64,
 }
 
 // How a segment is cut: so many pieces, the first and the others of these lengths.
-#[derive(Drop)]
+#[derive(Clone, Copy)]
 struct Cutting {
     pieces: usize,
     first: usize,
@@ -49,7 +51,7 @@ fn piece_end(from: usize, length: usize, n: usize) -> usize
 }
 
 // The end of a reading in pieces, and whether feed answered on the way as it has to where the end is the wanted one.
-#[derive(Drop)]
+#[derive(Clone, Copy)]
 struct Reading {
     end: End,
     answered: bool,

@@ -2,7 +2,7 @@
 use crate::text::{decode, given, letter, nth};
 
 // How much is lent.
-#[derive(Drop)]
+#[derive(Clone, Copy)]
 pub struct Lent {
     pub bytes: usize,
     pub numbers: usize,

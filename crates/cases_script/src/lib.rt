@@ -11,6 +11,8 @@
 // n at,number: a number is put into the leaf table
 // S, M, R, A, E with numbers: a state (crate `cases_states`)
 // c n: the state of a reading has n for its count of bytes read
+#![tactic(auto)]
+
 use cases_data::buffers::{FILL_BYTE, FILL_NUMBER, lent_bytes, lent_numbers};
 use cases_data::text::{letter, nth, part, word};
 use cases_data::words::{Lent, brand_of, lent_after, times};

@@ -1,4 +1,6 @@
 // States made from the numbers that a word of a script gives.
+#![tactic(auto)]
+
 use cases_data::text::nth;
 use machine::{Head, Refusal};
 use state::{Level, Levels, OpeningBoxes, Stage, State, Top};

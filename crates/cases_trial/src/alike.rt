@@ -20,7 +20,7 @@ const REFUSED: u64 = 2;
 const ACCEPTED: u64 = 3;
 
 // A state as numbers. Of a reading that goes on, the stage is left out.
-#[derive(Drop)]
+#[derive(Clone, Copy)]
 pub struct Ending {
     outcome: u64,
     count: u64,
@@ -30,7 +30,7 @@ pub struct Ending {
 }
 
 // What finish answered, and what it left.
-#[derive(Drop)]
+#[derive(Clone, Copy)]
 pub struct End {
     pub answer: FinishAnswer,
     left: Ending,

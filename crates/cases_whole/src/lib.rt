@@ -1,4 +1,6 @@
 // A segment read by the reader of a whole lent segment, beside feed: it has to answer and end alike, and to leave the same in both buffers.
+#![tactic(auto)]
+
 ghost use Rattle.std.specs.Prelude.{◌≡◌, true, ◌↔◌};
 ghost use Rattle.cases_data.specs.Lent.{lent_work, lent_table};
 ghost use Rattle.cases_whole.specs.Reading.{WholeRead, WholeAlike};

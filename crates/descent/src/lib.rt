@@ -1,1 +1,2 @@
 // The segment read by structure: definitions only.
+#![tactic(auto)]

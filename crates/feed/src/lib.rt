@@ -1,4 +1,6 @@
 // The reader fed in parts: start, feed and finish. A state goes in by value and comes back by value; nothing else is kept.
+#![tactic(auto)]
+
 ghost use Rattle.std.specs.Prelude.{◌≡◌, ◌≤◌, ◌<◌, length};
 ghost use Rattle.basics.specs.Bytes.{AllBytes};
 ghost use Rattle.state.specs.Flow.{work_bytes};
@@ -21,7 +23,7 @@ use state::{FeedAnswer, State};
 const WORK_BYTES: usize = 49152;
 
 // What feed answers, and the state that it leaves.
-#[derive(Drop)]
+#[derive(Clone, Copy)]
 pub struct Fed {
     pub answer: FeedAnswer,
     pub state: State,

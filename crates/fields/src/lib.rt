@@ -1,4 +1,6 @@
 // Fields and box headers of lent bytes, at a position in them. Positions count from the first byte lent.
+#![tactic(auto)]
+
 ghost use Rattle.std.specs.Prelude.{◌≡◌, true, ◌+◌, ◌*◌, ◌^◌, ◌<◌, ◌≤◌, length};
 ghost use Rattle.fields.specs.Answers.{number_at, some_width, field_at, Small, stop_at, checked_at, large_at, head_at, farthest};
 
@@ -10,7 +12,7 @@ const SHORT: usize = 8;
 const LONG: usize = 16;
 
 // A field: its value and the position after it, or that the bytes end before it does.
-#[derive(Drop)]
+#[derive(Clone, Copy)]
 pub enum FieldRead {
     Read(u64, usize),
     Ended,
@@ -18,7 +20,7 @@ pub enum FieldRead {
 
 // A fault: its number and its place, how many bytes were read up to the one that shows it, and how many leaves were listed. The last
 // is 0 but where entries are passed; with it a refusal is as long as a header, and is handed on without being copied.
-#[derive(Drop)]
+#[derive(Clone, Copy)]
 pub struct Stop {
     pub number: u64,
     pub place: u64,
@@ -27,7 +29,7 @@ pub struct Stop {
 }
 
 // A header: read, at fault, or that the bytes end before it does.
-#[derive(Drop)]
+#[derive(Clone, Copy)]
 pub enum HeadRead {
     Read(Header),
     Bad(Stop),

@@ -1,4 +1,6 @@
 // The end of a reading, asked for by the caller.
+#![tactic(auto)]
+
 ghost use Rattle.std.specs.Prelude.{◌≡◌};
 ghost use Rattle.machine.specs.Faults.{refusal};
 ghost use Rattle.state.specs.declared.State.TheVariants as state;
@@ -10,7 +12,7 @@ use range::in_range;
 use state::{FinishAnswer, State};
 
 // What finish answers, and the state that it leaves.
-#[derive(Drop)]
+#[derive(Clone, Copy)]
 pub struct Finished {
     pub answer: FinishAnswer,
     pub state: State,

@@ -1,4 +1,6 @@
 // The lowest number that a box's header shows where the box stands: by its size, its length and its type; 0 for none.
+#![tactic(auto)]
+
 ghost use Rattle.std.specs.Prelude.{◌≡◌, ◌++◌, not, ◌&&◌, ◌||◌, ◌≤◌, eqb, leb};
 ghost use Rattle.basics.specs.Choose.{pick};
 ghost use Rattle.segment.specs.Constants.{levels, styp, sidx, moof, mdat};

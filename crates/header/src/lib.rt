@@ -1,4 +1,6 @@
 // The header of a box, one byte of it at a time.
+#![tactic(auto)]
+
 ghost use Rattle.std.specs.Prelude.{◌≡◌, ◌+◌, ◌*◌, ◌<◌, ◌≤◌};
 ghost use Rattle.segment.specs.Constants.{limit};
 ghost use Rattle.machine.specs.Heads.{sized, step_head};
@@ -14,14 +16,14 @@ const SHORT: u64 = 8;
 const LONG: u64 = 16;
 
 // What a byte makes of a header: it is taken, or it is refused.
-#[derive(Drop)]
+#[derive(Clone, Copy)]
 pub enum HeadStep {
     Taken(HeadSo),
     Bad(Refusal),
 }
 
 // A header so far: it goes on, or it is read.
-#[derive(Drop)]
+#[derive(Clone, Copy)]
 pub enum HeadSo {
     Going(Head),
     Read(Header),

@@ -1,4 +1,6 @@
 // An index box byte by byte, the top one or an inner one: its numbers, then its entries, each byte of which is stored as read.
+#![tactic(auto)]
+
 ghost use Rattle.std.specs.Prelude.{◌≡◌, List, ◌&&◌, ◌||◌, not, ℕ, suc, ◌+◌, ◌-◌, ◌<◌, ◌≤◌, ◌*◌, ◌^◌, ◌%◌, eqb, ltb, leb, length};
 ghost use Rattle.segment.specs.Constants.{limit, time_limit, type_bit, most_entries};
 ghost use Rattle.machine.specs.Run.{bad};
@@ -16,21 +18,21 @@ use state::{
 };
 
 // Where an index stands: on top, or under an entry, with so many indexes open around it.
-#[derive(Drop)]
+#[derive(Clone, Copy)]
 pub enum Where {
     Topmost,
     Under(Top, Slot, u64),
 }
 
 // What a byte makes of an index: it is taken, or it is refused.
-#[derive(Drop)]
+#[derive(Clone, Copy)]
 pub enum IndexStep {
     Taken(IndexSo),
     Bad(Refusal),
 }
 
 // An index so far: it goes on, or it is read.
-#[derive(Drop)]
+#[derive(Clone, Copy)]
 pub enum IndexSo {
     Going(Sidx),
     Read(IndexRead),

@@ -1,4 +1,6 @@
 // The first box of an index entry, one byte at a time: it must be an inner index, which fills its entry.
+#![tactic(auto)]
+
 ghost use Rattle.std.specs.Prelude.{◌≡◌, List, ◌++◌, ℕ, ◌<◌, ◌≤◌, length};
 ghost use Rattle.segment.specs.Constants.{limit};
 ghost use Rattle.machine.specs.Heads.{size_faults};
@@ -19,7 +21,7 @@ use machine::{Header, Refusal};
 use state::{IndexRead, InnerBox, Slot, Span, Top};
 
 // What a byte makes of the first box of an index entry: it goes on, the inner index is read, or it is refused.
-#[derive(Drop)]
+#[derive(Clone, Copy)]
 pub enum InnerStep {
     Go(InnerBox),
     Done(IndexRead),

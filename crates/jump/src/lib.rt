@@ -1,4 +1,6 @@
 // Skipped bodies, passed at once: where the one at hand ends, and how many of the bytes there pass with it.
+#![tactic(auto)]
+
 ghost use Rattle.std.specs.Prelude.{◌≡◌};
 ghost use Rattle.jump.specs.Passes.{passes, passed_on, Fitting};
 ghost use Rattle.state.specs.Jump.{traf_skips, moof_skips, leaf_skips, opening_skips, gap_skips, skips, least, passing};

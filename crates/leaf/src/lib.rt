@@ -1,5 +1,7 @@
 // A leaf byte by byte: its boxes, a `moof` among them, and the boxes of a `moof`. What flows through a reading stays as it is inside a
 // leaf, so that no function here takes it; of the leaf table only whether it has room for one more leaf is told.
+#![tactic(auto)]
+
 ghost use Rattle.std.specs.Prelude.{ℕ, ◌+◌, ◌<◌, ◌≡◌, not, ◌&&◌, ◌||◌, [], ◌++◌, eqb};
 ghost use Rattle.basics.specs.Choose.{pick};
 ghost use Rattle.segment.specs.Constants.{limit, time_limit, styp, sidx, mdat};
@@ -26,21 +28,21 @@ use traf::{TrafStep, traf_begin, traf_byte};
 const TRAF: u64 = 1953653094;
 
 // What a box gives to the list that it stands in: nothing, or the decode times seen so far.
-#[derive(Drop)]
+#[derive(Clone, Copy)]
 pub enum Pass {
     Skipped,
     Seeing(Seen),
 }
 
 // What a byte makes of the body of a box in a `moof`, and of its boxes.
-#[derive(Drop)]
+#[derive(Clone, Copy)]
 pub enum MoofBodyStep {
     Go(MoofBody),
     Done(Pass),
     Bad(Refusal),
 }
 
-#[derive(Drop)]
+#[derive(Clone, Copy)]
 pub enum MoofStep {
     Go(MoofBoxes),
     Done(Seen),
@@ -48,14 +50,14 @@ pub enum MoofStep {
 }
 
 // What a byte makes of the body of a box in a leaf, and of its boxes.
-#[derive(Drop)]
+#[derive(Clone, Copy)]
 pub enum LeafBodyStep {
     Go(LeafBody),
     Done(Pass),
     Bad(Refusal),
 }
 
-#[derive(Drop)]
+#[derive(Clone, Copy)]
 pub enum LeafStep {
     Go(LeafBoxes),
     Done(Seen),

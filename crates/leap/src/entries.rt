@@ -21,7 +21,7 @@ use walk_entries::{Reached, RunEnd, inner_head, inner_index, leaves_walk};
 use walk_index::IndexAnswer;
 
 // What a stretch of entries comes to: it leads on to an entry; it ends the material; an index in it is refused; or nothing of it lies whole there.
-#[derive(Drop)]
+#[derive(Clone, Copy)]
 pub(crate) enum Stretch {
     On(Levels, Reached),
     Done(Reached),

@@ -1,6 +1,8 @@
 // What lies whole in the rest of a piece, read at once by the whole reader's walks: the boxes up to the end of the top index, runs of leaves and
 // inner indexes. It leaves what its bytes leave one after the other. What the piece cuts is left to the bytes, and so is what shows a fault,
 // but in an index that lies whole there.
+#![tactic(auto)]
+
 ghost use Rattle.std.specs.Prelude.{◌≡◌, ◌+◌, ◌-◌, ◌≤◌, min, length};
 ghost use Rattle.segment.specs.Constants.{limit};
 ghost use Rattle.state.specs.Flow.{work_bytes};
@@ -25,7 +27,7 @@ use walk_opening::{OpeningAnswer, opening_there};
 mod entries;
 
 // A state, and how many bytes of the piece are taken before it.
-#[derive(Drop)]
+#[derive(Clone, Copy)]
 pub struct Leapt {
     pub state: State,
     pub at: usize,

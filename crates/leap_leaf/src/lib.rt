@@ -1,5 +1,7 @@
 // The bytes at hand inside a leaf, taken with the leaf's boxes alone: nothing else of a reading changes with them. The byte that ends the
 // leaf, and one that is refused, are left to the ordinary path.
+#![tactic(auto)]
+
 ghost use Rattle.std.specs.Prelude.{ℕ, suc, ◌+◌, ◌-◌, ◌≤◌, ◌<◌, ◌≡◌, Bool, length, take};
 ghost use Rattle.segment.specs.Constants.{limit};
 ghost use Rattle.machine.specs.Run.{go};
@@ -26,14 +28,14 @@ use state::{LeafBody, LeafBoxes, MoofBody, MoofBoxes, Slot, Span, TrafBoxes};
 const SHORT: usize = 8;
 
 // The boxes of a leaf so far, and how many of the bytes at hand are taken.
-#[derive(Drop)]
+#[derive(Clone, Copy)]
 pub struct LeafOn {
     pub boxes: LeafBoxes,
     pub at: usize,
 }
 
 // The same after a turn, and whether another turn follows.
-#[derive(Drop)]
+#[derive(Clone, Copy)]
 pub struct Turn {
     pub boxes: LeafBoxes,
     pub at: usize,

@@ -1,4 +1,6 @@
 // Entries read back from the work area, and the indexes that stand open: what the stages of a reading share.
+#![tactic(auto)]
+
 ghost use Rattle.std.specs.Prelude.{◌≡◌, ◌+◌, ◌-◌, ◌*◌, ◌<◌, ◌≤◌, length};
 ghost use Rattle.segment.specs.Constants.{limit, most_entries, time_limit, type_bit};
 ghost use Rattle.state.specs.Flow.{work_bytes};
@@ -10,14 +12,14 @@ use fields::word_at;
 use state::{ENTRY_BYTES, LEVEL_BYTES, Level, Levels, Slot, StoredEntry, TYPE_BIT};
 
 // An entry that was read back: whether it is an index entry and where it stands, or that it was altered between calls.
-#[derive(Drop)]
+#[derive(Clone, Copy)]
 pub enum EntryRead {
     Stands(bool, Slot),
     Altered,
 }
 
 // The indexes that still have an entry to come, or none.
-#[derive(Drop)]
+#[derive(Clone, Copy)]
 pub enum Still {
     Open(Levels),
     Closed,

@@ -1,4 +1,6 @@
 // Lists the leaves of the segment that comes on standard input: document 01's listing program.
+#![tactic(auto)]
+
 ghost use Rattle.std.specs.Prelude.{◌≡◌, ◌/◌, ◌<◌, length};
 ghost use Rattle.table.specs.Table.{record_numbers};
 ghost use Rattle.listing.specs.Text.{line_most};
@@ -27,7 +29,7 @@ fn leaf_table() -> [u64; 1536]
 }
 
 // What was read so far: the state, whether to read on, and whether a read failed.
-#[derive(Drop)]
+#[derive(Clone, Copy)]
 struct Reading {
     state: State,
     open: bool,

@@ -1,4 +1,6 @@
 // The text of a listing, put into lent bytes: what then stands in them is proved, and only the write is not.
+#![tactic(auto)]
+
 ghost use Rattle.std.specs.Prelude.{[], ◌∷◌, ◌++◌, ◌≡◌, ◌+◌, ◌*◌, ◌≤◌, ◌<◌, length};
 ghost use Rattle.basics.specs.Put.{put_all};
 ghost use Rattle.table.specs.Table.{record_numbers, record_at};

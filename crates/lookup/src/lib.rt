@@ -1,4 +1,6 @@
 // A time looked up in the leaf table of an accepted segment, in ticks or in seconds.
+#![tactic(auto)]
+
 ghost use Rattle.std.specs.Prelude.{◌≡◌, ◌+◌, ◌*◌, ◌^◌, ◌≤◌, ◌<◌, length};
 ghost use Rattle.basics.specs.Choose.{pick};
 ghost use Rattle.machine.specs.Faults.{refusal};
@@ -40,7 +42,7 @@ const HIGHEST: u64 = 18446744073709551615;
 
 // Where a lookup ends: at a record, by the place of its first number in the table, or at the number of a refusal. Spots fit in
 // registers, an answer does not: the ways through a lookup meet in a spot, and one place makes the answer of it.
-#[derive(Drop)]
+#[derive(Clone, Copy)]
 pub enum Spot {
     At(usize),
     Refused(u64),

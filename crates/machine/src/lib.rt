@@ -1,7 +1,8 @@
 // What every reading here is made of, whatever it reads: a refusal, and the header of a box byte by byte.
+#![tactic(auto)]
 
 // A refusal: its number in document 01's table, and its place.
-#[derive(Drop)]
+#[derive(Clone, Copy)]
 pub struct Refusal {
     pub number: u64,
     pub place: u64,
@@ -9,7 +10,7 @@ pub struct Refusal {
 
 // A header that is being read: at its first byte, or in its size, its type or its 64-bit size.
 // `more` bytes of the number follow the next one; `acc` is what those before it spell.
-#[derive(Drop)]
+#[derive(Clone, Copy)]
 pub enum Head {
     First,
     Size {
@@ -32,7 +33,7 @@ pub enum Head {
 }
 
 // A header that was read: the box's first byte, its type, its size, and how many bytes of it the header takes.
-#[derive(Drop)]
+#[derive(Clone, Copy)]
 pub struct Header {
     pub pos: u64,
     pub kind: u64,

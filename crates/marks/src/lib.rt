@@ -1,4 +1,6 @@
 // Marks in the margin of a course book, resolved to the leaf that covers the time they name.
+#![tactic(auto)]
+
 ghost use Rattle.std.specs.Prelude.{◌≡◌};
 ghost use Rattle.marks.specs.Marks.{resolve_of};
 
@@ -8,14 +10,14 @@ use moment::Request;
 use state::State;
 
 // A mark: the page that it stands on, and the time in the film that it names, in seconds.
-#[derive(Drop)]
+#[derive(Clone, Copy)]
 pub struct Mark {
     pub page: u32,
     pub seconds: f64,
 }
 
 // A mark's page, and what a lookup of its seconds answers.
-#[derive(Drop)]
+#[derive(Clone, Copy)]
 pub struct Resolved {
     pub page: u32,
     pub answer: LookupAnswer,

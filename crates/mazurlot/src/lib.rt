@@ -1,6 +1,8 @@
 // The library that a player links: start, feed, finish, the whole reader, lookups and marks over numbers and lent slices, as
 // include/mazurlot.h declares them. The state is 57 numbers (docs/STATE.md). Each call gives back 0 or the number of a refusal, and writes its
 // answer, or the refusal's place, into a lent slot; 2 writes nothing.
+#![tactic(auto)]
+
 ghost use Rattle.std.specs.Prelude.{[], ◌≡◌};
 ghost use Rattle.moment.specs.declared.Request.TheVariants as request;
 ghost use Rattle.mazurlot.specs.Calls.{call, start_call, feed_call, finish_call, whole_call, lookup_call, resolve_call};

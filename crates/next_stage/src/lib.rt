@@ -1,4 +1,6 @@
 // What follows a byte in the opening, in the gap, in a leaf and in the first box of an index entry: the stage that the reading is in next.
+#![tactic(auto)]
+
 ghost use Rattle.std.specs.Prelude.{◌≡◌, List, ℕ, ◌-◌, ◌≤◌};
 ghost use Rattle.table.specs.Table.{most_records};
 ghost use Rattle.state.specs.Stages as defs;
@@ -18,7 +20,7 @@ use state::{GapBoxes, IndexRead, Level, Levels, Slot, Stage, Top};
 use table::Record;
 
 // The numbers that flow through a reading: leaves listed, when the next entry starts, the last decode time.
-#[derive(Drop)]
+#[derive(Clone, Copy)]
 pub struct Running {
     pub leaves: u64,
     pub now: u64,
@@ -26,7 +28,7 @@ pub struct Running {
 }
 
 // What a byte makes of a stage: it goes on, the material ends, or the byte is refused.
-#[derive(Drop)]
+#[derive(Clone, Copy)]
 pub enum StageStep {
     Go(Stage, Running),
     Done(Top, Running),

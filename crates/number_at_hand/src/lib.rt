@@ -1,4 +1,6 @@
 // The number that is being read, whatever the stage: how much of it is read, and the stage with more of it read.
+#![tactic(auto)]
+
 ghost use Rattle.std.specs.Prelude.{◌≡◌, false};
 ghost use Rattle.state.specs.Sidx.{Place};
 ghost use Rattle.state.specs.Numbers.{head_number, sidx_number, traf_number, moof_number, leaf_number, opening_number, gap_number, inner_number, stage_number};
@@ -17,7 +19,7 @@ use state::{
 
 // The number at hand: so many bytes follow its next one, those before it spell `acc`, and where they are stored, its next one goes
 // to `place`.
-#[derive(Drop)]
+#[derive(Clone, Copy)]
 pub struct AtHand {
     pub more: u64,
     pub acc: u64,

@@ -1,1 +1,2 @@
 // The state as numbers at fixed places. Definitions and proofs only.
+#![tactic(auto)]

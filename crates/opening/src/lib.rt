@@ -1,4 +1,6 @@
 // The boxes up to the top index and the boxes of the gap, one byte at a time.
+#![tactic(auto)]
+
 ghost use Rattle.std.specs.Prelude.{◌≡◌, List, ◌++◌, true, ◌||◌, ℕ, ◌+◌, ◌<◌, ◌≤◌, eqb, length};
 ghost use Rattle.segment.specs.Constants.{limit};
 ghost use Rattle.machine.specs.Run.{done, bad, lift};
@@ -22,7 +24,7 @@ use machine::{Head, Header, Refusal};
 use state::{GapBoxes, IndexRead, LIMIT, OpeningBody, OpeningBoxes, Span, StypPart};
 
 // What a byte makes of the boxes up to the top index: they go on, the top index is read, or it is refused.
-#[derive(Drop)]
+#[derive(Clone, Copy)]
 pub enum OpeningStep {
     Go(OpeningBoxes),
     Done(IndexRead),
@@ -30,7 +32,7 @@ pub enum OpeningStep {
 }
 
 // What a byte makes of the gap: it goes on, the gap is over, or it is refused.
-#[derive(Drop)]
+#[derive(Clone, Copy)]
 pub enum GapStep {
     Go(GapBoxes),
     Done,

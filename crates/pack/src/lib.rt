@@ -1,4 +1,6 @@
 // The state as a lent slice of 64-bit numbers, for callers that keep it outside this code; docs/STATE.md, "The state as numbers".
+#![tactic(auto)]
+
 ghost use Rattle.std.specs.Prelude.{◌≡◌, ◌&&◌, eqb, length, replicate};
 ghost use Rattle.numbered.specs.Numbers.{state_numbers};
 ghost use Rattle.numbered.specs.Unpacked.{same_numbers, pack_of};
@@ -17,14 +19,14 @@ mod take;
 pub const STATE_NUMBERS: usize = 57;
 
 // What packing answers.
-#[derive(Drop)]
+#[derive(Clone, Copy)]
 pub enum Packed {
     Done,
     Refused(Refusal),
 }
 
 // What unpacking answers: the state, or a refusal.
-#[derive(Drop)]
+#[derive(Clone, Copy)]
 pub enum Unpacked {
     Found(State),
     Refused(Refusal),

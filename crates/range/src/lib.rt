@@ -1,4 +1,6 @@
 // Whether the numbers of a state are in their ranges: a state comes from outside, and each call looks before it goes by it.
+#![tactic(auto)]
+
 ghost use Rattle.std.specs.Prelude.{◌≡◌, ◌&&◌, [], ◌∷◌, ◌++◌, ℕ, ◌+◌, ◌^◌, ◌<◌};
 ghost use Rattle.segment.specs.Constants.{time_limit};
 ghost use Rattle.table.specs.Table.{most_records};

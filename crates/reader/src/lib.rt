@@ -1,4 +1,6 @@
 // Fields and box headers of a whole segment, or of a piece of one: what the walks by structure call.
+#![tactic(auto)]
+
 ghost use Rattle.std.specs.Prelude.{◌≡◌, true, ◌+◌, ◌≤◌, length};
 ghost use Rattle.machine.specs.declared.Header.{Header};
 ghost use Rattle.fields.specs.Answers.{some_width, field_at, Small, head_at, farthest};
@@ -12,7 +14,7 @@ const SHORT: usize = 8;
 
 // The lent bytes and a position in them. Its functions are thin and stay in this crate: each takes it apart and calls one on the
 // bytes and the position.
-#[derive(Drop)]
+#[derive(Clone, Copy)]
 struct Reader<'a> {
     bytes: &'a [u8],
     at: usize,

@@ -1,4 +1,6 @@
 // The leaf table in code: its room, a record put into it and one read back.
+#![tactic(auto)]
+
 ghost use Rattle.std.specs.Prelude.{List, ◌≡◌, ℕ, ◌+◌, ◌*◌, ◌≤◌, ◌<◌, leb, length};
 ghost use Rattle.table.specs.Table as defs;
 

@@ -1,5 +1,7 @@
 // The whole ticks of the time that is asked for; those of seconds are worked out exactly, from the double's bits. Only whole ticks matter
 // to a lookup, since a leaf starts and ends at a tick.
+#![tactic(auto)]
+
 ghost use Rattle.std.specs.Prelude.{◌≡◌, ◌+◌, ◌*◌, ◌/◌, ◌^◌, ◌<◌};
 ghost use Rattle.moment.specs.Moments.{seconds_at, moment_of};
 ghost use Rattle.seconds.specs.Ticks.{Splits, wide, ticks_at, ticks_of};
@@ -7,27 +9,27 @@ ghost use Rattle.seconds.specs.Ticks.{Splits, wide, ticks_at, ticks_of};
 use moment::Request;
 
 // A value is digits * 2^power / 2^1074 seconds.
-#[derive(Drop)]
+#[derive(Clone, Copy)]
 struct Parts {
     digits: u64,
     power: u64,
 }
 
-#[derive(Drop)]
+#[derive(Clone, Copy)]
 enum Split {
     Value(Parts),
     NoTime,
 }
 
 // A number of up to 128 bits: high * 2^64 + low.
-#[derive(Drop)]
+#[derive(Clone, Copy)]
 struct Wide {
     high: u64,
     low: u64,
 }
 
 // Whole ticks: so many; 2^64 and so many; 2^65 or more, which no record reaches; or none, since the seconds are no time.
-#[derive(Drop)]
+#[derive(Clone, Copy)]
 pub enum Ticks {
     At(u64),
     Beyond(u64),

@@ -1,4 +1,6 @@
 // The bytes of the number that is being read, taken together: none of them is its last, and the state after them.
+#![tactic(auto)]
+
 ghost use Rattle.std.specs.Prelude.{◌≡◌, ◌+◌, ◌-◌, ◌≤◌, ◌<◌, length, take, drop};
 ghost use Rattle.basics.specs.Bytes.{number_from};
 ghost use Rattle.basics.specs.Choose.{pick};
@@ -16,7 +18,7 @@ use number_at_hand::{AtHand, stage_again, stage_number};
 use state::{LIMIT, Stage, State};
 
 // A state, and how many bytes of the piece are taken before it.
-#[derive(Drop)]
+#[derive(Clone, Copy)]
 pub struct Moved {
     pub state: State,
     pub at: usize,

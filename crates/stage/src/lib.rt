@@ -1,4 +1,6 @@
 // One byte of a segment, whatever stage the reading is in.
+#![tactic(auto)]
+
 ghost use Rattle.std.specs.Prelude.{◌≡◌, List, ℕ, ◌≤◌, ◌<◌, length};
 ghost use Rattle.segment.specs.Constants.{limit};
 ghost use Rattle.state.specs.Flow.{work_bytes};

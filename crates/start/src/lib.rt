@@ -1,4 +1,6 @@
 // A reading before its first byte.
+#![tactic(auto)]
+
 ghost use Rattle.std.specs.Prelude.{◌≡◌};
 ghost use Rattle.basics.specs.Bytes.{number};
 ghost use Rattle.state.specs.Calls.{start_of};

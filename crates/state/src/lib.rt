@@ -1,6 +1,8 @@
 // The state of a reading, as it goes in by value and comes back by value: enums within enums, each phase with its own numbers.
 // A place is counted in bytes from the segment's first; an `end` is the place after the last byte. In a number that is being
 // read `more` bytes follow the next one, and `acc` is what those before it spell.
+#![tactic(auto)]
+
 use machine::{Head, Refusal};
 
 // The most bytes a segment has.
@@ -21,14 +23,14 @@ pub const LEVEL_BYTES: u64 = 12288;
 pub const TYPE_BIT: u64 = 2147483648;
 
 // A box: its first byte and its end.
-#[derive(Drop)]
+#[derive(Clone, Copy)]
 pub struct Span {
     pub pos: u64,
     pub end: u64,
 }
 
 // The decode times of the reference track: whether this leaf has shown any, its first, and the last in the segment so far.
-#[derive(Drop)]
+#[derive(Clone, Copy)]
 pub struct Seen {
     pub any: bool,
     pub first: u64,
@@ -36,7 +38,7 @@ pub struct Seen {
 }
 
 // How far a `traf` has come: no `tfhd` yet, `tfhd` read, `tfdt` read.
-#[derive(Drop)]
+#[derive(Clone, Copy)]
 pub enum TrafPhase {
     Fresh,
     Headed { reference: bool },
@@ -44,14 +46,14 @@ pub enum TrafPhase {
 }
 
 // What is known of a `traf` between two of its boxes.
-#[derive(Drop)]
+#[derive(Clone, Copy)]
 pub struct TrafSo {
     pub track: TrafPhase,
     pub seen: Seen,
 }
 
 // The numbers of a `tfhd` and of a `tfdt`.
-#[derive(Drop)]
+#[derive(Clone, Copy)]
 pub enum TrafPart {
     HeadFlags { end: u64 },
     TrackId { end: u64 },
@@ -61,54 +63,54 @@ pub enum TrafPart {
 }
 
 // The body of a box in a `traf`: skipped, the rest of a `tfhd` after its track ID, or in a number.
-#[derive(Drop)]
+#[derive(Clone, Copy)]
 pub enum TrafBody {
     Skip { stop: u64 },
     Rest { stop: u64, reference: bool },
     Field { part: TrafPart, more: u64, acc: u64 },
 }
 
-#[derive(Drop)]
+#[derive(Clone, Copy)]
 pub enum TrafBoxes {
     Head(TrafSo, Head),
     Body(TrafSo, TrafBody),
 }
 
 // The body of a box in a `moof`.
-#[derive(Drop)]
+#[derive(Clone, Copy)]
 pub enum MoofBody {
     Skip { stop: u64 },
     Traf(Span, TrafBoxes),
 }
 
-#[derive(Drop)]
+#[derive(Clone, Copy)]
 pub enum MoofBoxes {
     Head(Seen, Head),
     Body(Seen, MoofBody),
 }
 
 // What is known of a leaf between two of its boxes: whether it has had a `moof`.
-#[derive(Drop)]
+#[derive(Clone, Copy)]
 pub struct LeafSo {
     pub moof: bool,
     pub seen: Seen,
 }
 
 // The body of a box in a leaf.
-#[derive(Drop)]
+#[derive(Clone, Copy)]
 pub enum LeafBody {
     Skip { stop: u64 },
     Moof { end: u64, boxes: MoofBoxes },
 }
 
-#[derive(Drop)]
+#[derive(Clone, Copy)]
 pub enum LeafBoxes {
     Head(LeafSo, Head),
     Body(LeafSo, LeafBody),
 }
 
 // The numbers of an index before its entries.
-#[derive(Drop)]
+#[derive(Clone, Copy)]
 pub enum IndexPart {
     Version,
     Flags,
@@ -121,7 +123,7 @@ pub enum IndexPart {
 }
 
 // What has been read of an index before its entries.
-#[derive(Drop)]
+#[derive(Clone, Copy)]
 pub struct Draft {
     pub wide: bool,
     pub id: u64,
@@ -130,7 +132,7 @@ pub struct Draft {
     pub offset: u64,
 }
 
-#[derive(Drop)]
+#[derive(Clone, Copy)]
 pub enum EntryPart {
     Size,
     Duration,
@@ -138,7 +140,7 @@ pub enum EntryPart {
 }
 
 // What has been read of an index's entries: how many, of how many, and the sums of their sizes and durations.
-#[derive(Drop)]
+#[derive(Clone, Copy)]
 pub struct Sums {
     pub next: u64,
     pub count: u64,
@@ -147,7 +149,7 @@ pub struct Sums {
 }
 
 // The body of a `sidx`.
-#[derive(Drop)]
+#[derive(Clone, Copy)]
 pub enum Sidx {
     Field {
         part: IndexPart,
@@ -165,7 +167,7 @@ pub enum Sidx {
 }
 
 // The numbers of a `styp`.
-#[derive(Drop)]
+#[derive(Clone, Copy)]
 pub enum StypPart {
     Major,
     Minor,
@@ -173,7 +175,7 @@ pub enum StypPart {
 }
 
 // The body of a box up to the top index.
-#[derive(Drop)]
+#[derive(Clone, Copy)]
 pub enum OpeningBody {
     Skip {
         stop: u64,
@@ -189,21 +191,21 @@ pub enum OpeningBody {
 }
 
 // The boxes up to the top index: whether `styp` was read, and the box.
-#[derive(Drop)]
+#[derive(Clone, Copy)]
 pub enum OpeningBoxes {
     Head(bool, Head),
     Body(bool, OpeningBody),
 }
 
 // The boxes of the gap.
-#[derive(Drop)]
+#[derive(Clone, Copy)]
 pub enum GapBoxes {
     Head(Head),
     Body { stop: u64 },
 }
 
 // What the top index says of the whole segment.
-#[derive(Drop)]
+#[derive(Clone, Copy)]
 pub struct Top {
     pub id: u64,
     pub scale: u64,
@@ -212,7 +214,7 @@ pub struct Top {
 }
 
 // An index whose entries are being passed: the next entry's number from 0, how many there are, and where and when all of them end.
-#[derive(Drop)]
+#[derive(Clone, Copy)]
 pub struct Level {
     pub next: u64,
     pub count: u64,
@@ -221,7 +223,7 @@ pub struct Level {
 }
 
 // The indexes that stand open, the top one first.
-#[derive(Drop)]
+#[derive(Clone, Copy)]
 pub enum Levels {
     One(Level),
     Two(Level, Level),
@@ -230,7 +232,7 @@ pub enum Levels {
 }
 
 // An entry as it stands in the work area: whether it is of type 1, and its numbers.
-#[derive(Drop)]
+#[derive(Clone, Copy)]
 pub struct StoredEntry {
     pub inner: bool,
     pub size: u64,
@@ -239,7 +241,7 @@ pub struct StoredEntry {
 }
 
 // An entry as read back from the work area: where it starts and ends, when it ends, and its SAP word.
-#[derive(Drop)]
+#[derive(Clone, Copy)]
 pub struct Slot {
     pub pos: u64,
     pub end: u64,
@@ -248,14 +250,14 @@ pub struct Slot {
 }
 
 // The first box of an index entry.
-#[derive(Drop)]
+#[derive(Clone, Copy)]
 pub enum InnerBox {
     Head(Head),
     Body(Span, Sidx),
 }
 
 // Where the reading stands.
-#[derive(Drop)]
+#[derive(Clone, Copy)]
 pub enum Stage {
     Opening {
         brand: u64,
@@ -288,7 +290,7 @@ pub enum Stage {
 // The state: in the segment, at the end of its material, after a kept refusal, or after an accepted finish.
 // `count` bytes were read and `leaves` leaves listed; the next entry starts at the time `now`; `last` is the last decode time of the
 // leaves listed.
-#[derive(Drop)]
+#[derive(Clone, Copy)]
 pub enum State {
     Reading {
         count: u64,
@@ -315,7 +317,7 @@ pub enum State {
 }
 
 // An index that was read whole.
-#[derive(Drop)]
+#[derive(Clone, Copy)]
 pub struct IndexRead {
     pub id: u64,
     pub scale: u64,
@@ -327,14 +329,14 @@ pub struct IndexRead {
 }
 
 // What feed answers: the count of all bytes read, or a refusal.
-#[derive(Drop)]
+#[derive(Clone, Copy)]
 pub enum FeedAnswer {
     Read(u64),
     Refused(Refusal),
 }
 
 // What finish answers: the leaf count, or a refusal.
-#[derive(Drop)]
+#[derive(Clone, Copy)]
 pub enum FinishAnswer {
     Listed(u64),
     Refused(Refusal),

@@ -1,4 +1,5 @@
 // The leaf table that is lent: how many records it takes, and what a record holds.
+#![tactic(auto)]
 
 // The most records that a table takes.
 pub const MOST_RECORDS: u64 = 4096;
@@ -18,7 +19,7 @@ pub const SAP: usize = 4;
 pub const TIME: usize = 5;
 
 // A leaf's record: its numbers in their order in the table.
-#[derive(Drop)]
+#[derive(Clone, Copy)]
 pub struct Record {
     pub position: u64,
     pub size: u64,

@@ -1,4 +1,6 @@
 // The boxes of a `traf`, byte by byte. What flows through a reading stays as it is inside a `traf`, so that no function here takes it.
+#![tactic(auto)]
+
 ghost use Rattle.std.specs.Prelude.{ℕ, ◌+◌, ◌<◌, ◌≤◌, ◌≡◌, ◌&&◌, [], ◌++◌, ltb};
 ghost use Rattle.basics.specs.Choose.{pick};
 ghost use Rattle.segment.specs.Constants.{limit, time_limit};
@@ -22,7 +24,7 @@ use machine::{Head, Header, Refusal};
 use state::{Seen, Span, TrafBody, TrafBoxes, TrafPart, TrafPhase, TrafSo};
 
 // What a box of a `traf` gives: nothing; whether its track is the reference track; or whether it is, its place and its decode time.
-#[derive(Drop)]
+#[derive(Clone, Copy)]
 pub enum Given {
     Nothing,
     Headed(bool),
@@ -30,21 +32,21 @@ pub enum Given {
 }
 
 // What a byte makes of the body of a box: it is taken, or it is refused.
-#[derive(Drop)]
+#[derive(Clone, Copy)]
 pub enum BodyStep {
     Taken(BodySo),
     Bad(Refusal),
 }
 
 // The body of a box so far: it goes on, or it ends with what it gives.
-#[derive(Drop)]
+#[derive(Clone, Copy)]
 pub enum BodySo {
     Going(TrafBody),
     Ended(Given),
 }
 
 // What a byte makes of the boxes of a `traf`.
-#[derive(Drop)]
+#[derive(Clone, Copy)]
 pub enum TrafStep {
     Go(TrafBoxes),
     Done(Seen),

@@ -1,5 +1,7 @@
 // The entries of an index and all that they cover, level by level: a leaf, or an inner index and its entries. The bytes lent stand at the
 // place `base` of the segment; places count from the segment's first byte, positions from the first byte lent.
+#![tactic(auto)]
+
 ghost use Rattle.std.specs.Prelude.{◌≡◌, true, false, not, ◌&&◌, List, ℕ, ◌+◌, ◌-◌, ◌*◌, ◌≤◌, ◌<◌, ltb, length};
 ghost use Rattle.segment.specs.Constants.{limit, most_entries, type_bit, time_limit, entry_bytes};
 ghost use Rattle.table.specs.Table as tables;
@@ -26,7 +28,7 @@ use walk_leaf::{Walked, full_leaf, leaf_walk};
 const LEVELS: u64 = 4;
 
 // How far a walk has come: the place, the time, the leaves listed and the last decode time of the reference track in them.
-#[derive(Drop)]
+#[derive(Clone, Copy)]
 pub struct Reached {
     pub n: u64,
     pub now: u64,
@@ -36,7 +38,7 @@ pub struct Reached {
 
 // The answer of an entry, and of all entries of an index: how far they led; a refusal, with the leaves listed; or that the bytes end, and
 // how many leaves were listed.
-#[derive(Drop)]
+#[derive(Clone, Copy)]
 pub enum Went {
     On(Reached),
     Bad(Stop),
@@ -45,7 +47,7 @@ pub enum Went {
 
 // How a run of leaves ends: all entries are passed; the next entry is an inner index, with its place; it is refused; or the bytes end in it
 // or before it.
-#[derive(Drop)]
+#[derive(Clone, Copy)]
 pub enum RunEnd {
     Over,
     Inner(Slot),
@@ -54,7 +56,7 @@ pub enum RunEnd {
 }
 
 // How far a run of leaves led, which entry comes next, and why it ended there.
-#[derive(Drop)]
+#[derive(Clone, Copy)]
 pub struct Ran {
     pub so: Reached,
     pub next: u64,
@@ -63,7 +65,7 @@ pub struct Ran {
 
 // The entries of an index as they stand in the work area: the place of the next one and that after the last one; and where, counted from
 // the first byte lent, and when what they cover ends. So the loop over leaves needs few numbers.
-#[derive(Drop)]
+#[derive(Clone, Copy)]
 struct Row {
     pub next: u64,
     pub over: u64,
@@ -72,7 +74,7 @@ struct Row {
 }
 
 // The answer of an entry in a run of leaves: how far a leaf led, counted from the first byte lent, or how the run ends.
-#[derive(Drop)]
+#[derive(Clone, Copy)]
 enum Step {
     On(Reached),
     Inner(Slot),

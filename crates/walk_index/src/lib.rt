@@ -1,5 +1,7 @@
 // An index box by structure, the top one or an inner one: its numbers, then its entries, each byte of which is stored as read.
 // Positions count from the first byte lent, which stands at the place `base` of the segment.
+#![tactic(auto)]
+
 ghost use Rattle.std.specs.Prelude.{◌≡◌, Bool, ◌&&◌, not, ℕ, suc, ◌+◌, ◌-◌, ◌*◌, ◌%◌, ◌<◌, ◌≤◌, eqb, leb, length, take, drop};
 ghost use Rattle.basics.specs.Put.{put_all};
 ghost use Rattle.segment.specs.Constants.{limit, type_bit, entry_bytes};
@@ -19,7 +21,7 @@ use reader::read_field;
 use state::{ENTRY_BYTES, IndexRead, LEVEL_BYTES, TYPE_BIT};
 
 // What is read of an index before its entries, and the position where these start.
-#[derive(Drop)]
+#[derive(Clone, Copy)]
 struct Fields {
     pub id: u64,
     pub scale: u64,
@@ -30,7 +32,7 @@ struct Fields {
 }
 
 // The answer of the numbers before the entries.
-#[derive(Drop)]
+#[derive(Clone, Copy)]
 enum FieldsRead {
     Read(Fields),
     Bad(Stop),
@@ -38,21 +40,21 @@ enum FieldsRead {
 }
 
 // The answer of an entry: its size and its duration, or that its size is 0.
-#[derive(Drop)]
+#[derive(Clone, Copy)]
 enum EntryTaken {
     Read(u64, u64),
     Bad,
 }
 
 // The sums of an index's entries.
-#[derive(Drop)]
+#[derive(Clone, Copy)]
 struct Added {
     pub sizes: u64,
     pub durations: u64,
 }
 
 // The answer of the entries.
-#[derive(Drop)]
+#[derive(Clone, Copy)]
 enum EntriesRead {
     Read(Added),
     Bad(Stop),
@@ -60,7 +62,7 @@ enum EntriesRead {
 }
 
 // The answer of an index.
-#[derive(Drop)]
+#[derive(Clone, Copy)]
 pub enum IndexAnswer {
     Read(IndexRead),
     Bad(Stop),
@@ -69,7 +71,7 @@ pub enum IndexAnswer {
 
 // What the numbers of an index have to be: whether it is an inner one, its parent's reference ID and timescale; and its level's part of
 // the work area.
-#[derive(Drop)]
+#[derive(Clone, Copy)]
 struct Wanted {
     pub inner: bool,
     pub id: u64,

@@ -1,5 +1,7 @@
 // A leaf by structure: a list of boxes, in which a `moof` is a list of boxes, in which a `traf` is one. Positions count from the first
 // byte lent, which may stand anywhere in the segment. No body that is skipped is looked at.
+#![tactic(auto)]
+
 ghost use Rattle.std.specs.Prelude.{◌≡◌, true, false, not, ◌&&◌, ℕ, ◌+◌, ◌≤◌, ◌<◌, eqb, length};
 ghost use Rattle.basics.specs.Choose.{pick};
 ghost use Rattle.segment.specs.Constants.{limit, tfhd, tfdt};
@@ -26,7 +28,7 @@ const TRAF: u64 = 1953653094;
 // decode time. In a `traf` it is 2 after a `tfhd` of another track, and 3 after one of the reference track. Then the decode times of
 // the reference track: 1 if the leaf has shown any, the first of them, and the last in the segment so far.
 // Four numbers, as many as a refusal has: so they stay in registers, and an answer is not copied.
-#[derive(Drop)]
+#[derive(Clone, Copy)]
 pub struct Known {
     pub mark: u64,
     pub any: u64,
@@ -35,7 +37,7 @@ pub struct Known {
 }
 
 // The answer of a list of boxes, and of a box: it is over, it is refused, or the bytes end before it does.
-#[derive(Drop)]
+#[derive(Clone, Copy)]
 pub enum Walked {
     Over(Known),
     Bad(Stop),

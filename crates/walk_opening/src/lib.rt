@@ -1,4 +1,6 @@
 // The boxes up to the top index, and those of the gap after it, by structure. No body that is skipped is looked at.
+#![tactic(auto)]
+
 ghost use Rattle.std.specs.Prelude.{◌≡◌, ◌+◌, ◌-◌, ◌/◌, ◌%◌, ◌≤◌, length};
 ghost use Rattle.segment.specs.Constants.{limit, styp, sidx};
 ghost use Rattle.state.specs.Flow.{work_bytes};
@@ -18,7 +20,7 @@ use state::{IndexRead, LIMIT};
 use walk_index::{IndexAnswer, index_walk};
 
 // The answer of the gap, of a `styp` and of a skipped box: it is over, it is refused, or the bytes end before it does.
-#[derive(Drop)]
+#[derive(Clone, Copy)]
 pub enum Crossed {
     Over,
     Bad(Stop),
@@ -26,7 +28,7 @@ pub enum Crossed {
 }
 
 // The answer of the boxes up to the top index: its header.
-#[derive(Drop)]
+#[derive(Clone, Copy)]
 pub enum Found {
     Index(Header),
     Bad(Stop),
@@ -34,7 +36,7 @@ pub enum Found {
 }
 
 // The answer of the opening: the top index, and the position where it ends.
-#[derive(Drop)]
+#[derive(Clone, Copy)]
 pub enum OpeningAnswer {
     Read(IndexRead, usize),
     Bad(Stop),

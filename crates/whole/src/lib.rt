@@ -1,5 +1,7 @@
 // The reader of a whole lent segment: it answers, gives back the state and leaves both buffers as start, one feed of all the bytes and
 // finish do, ending at the first refusal. It reads by structure, and looks at no byte that is skipped.
+#![tactic(auto)]
+
 ghost use Rattle.std.specs.Prelude.{◌≡◌, List, ℕ, ◌≤◌, min, length, take, drop};
 ghost use Rattle.basics.specs.Bytes.{number};
 ghost use Rattle.segment.specs.Constants.{limit};
@@ -25,7 +27,7 @@ const LEVELS: u64 = 4;
 
 // How a whole reading ends: accepted, with what the top index says; refused, and so kept; or the work area is too short to begin. The first
 // two tell how many bytes were read and how many leaves were listed.
-#[derive(Drop)]
+#[derive(Clone, Copy)]
 pub enum Ending {
     Accepted(u64, u64, Top),
     Refused(u64, u64, Refusal),
@@ -33,7 +35,7 @@ pub enum Ending {
 }
 
 // What the reader answers, and the state that it gives back.
-#[derive(Drop)]
+#[derive(Clone, Copy)]
 pub struct Answered {
     pub answer: FinishAnswer,
     pub state: State,
@@ -41,7 +43,7 @@ pub struct Answered {
 
 // The answer of a segment: how far its material led, and what the top index says of it; a refusal; or that the bytes end, and how many
 // leaves were listed.
-#[derive(Drop)]
+#[derive(Clone, Copy)]
 pub enum SegmentRead {
     Done(Reached, Top),
     Bad(Stop),

@@ -1,0 +1,38 @@
+-- `levels::still_open` meets its contract, by those of `still_one`, `still_two`, `still_three` and `still_four`, and by the definitions of `stillOpen`
+-- and `stillFour`.
+use Rattle.state.specs.Levels.{still_open}
+use Rattle.levels.specs.Views.{still_four}
+use borrow.Author.Rules.{rules}
+use Rattle.levels.proofs.still_open.Goals as goal
+
+pub still_one-requires : goal.still_one-requires
+unfolding still_open still_four
+still_one-requires c = search rules
+
+pub still_two-requires : goal.still_two-requires
+unfolding still_open still_four
+still_two-requires c = search rules
+
+pub still_three-requires : goal.still_three-requires
+unfolding still_open still_four
+still_three-requires c = search rules
+
+pub still_four-requires : goal.still_four-requires
+unfolding still_open still_four
+still_four-requires c = search rules
+
+pub returns-in-One : goal.returns-in-One
+unfolding still_open still_four
+returns-in-One c = rw c.in-One.is c.still_one.ensures
+
+pub returns-in-Two : goal.returns-in-Two
+unfolding still_open still_four
+returns-in-Two c = rw c.in-Two.is c.still_two.ensures
+
+pub returns-in-Three : goal.returns-in-Three
+unfolding still_open still_four
+returns-in-Three c = rw c.in-Three.is c.still_three.ensures
+
+pub returns-in-Four : goal.returns-in-Four
+unfolding still_open still_four
+returns-in-Four c = rw c.in-Four.is c.still_four.ensures
