@@ -53,19 +53,19 @@ abbrev pub left_with : State → List ℕ → List ℕ → Out FeedAnswer
 left_with s work table = out (answered s) s work table
 
 -- what a stage's step leads to is what the definition's does
-pub settled_view : (q : StageStep) (n leaves : ℕ) (work table : List ℕ) → left_with (stepped n leaves q) work table ≡ fed (settle n (view_stage leaves work table q))
+settled_view : (q : StageStep) (n leaves : ℕ) (work table : List ℕ) → left_with (stepped n leaves q) work table ≡ fed (settle (suc n) (view_stage leaves work table q))
 unfolding answered stepped settle state_of work_of table_of answer_of
-settled_view (steps.Go s r) n leaves work table = refl
-settled_view (steps.Done top r) n leaves work table = refl
-settled_view (steps.Bad x) n leaves work table = refl
+settled_view (steps.Go s r) n leaves work table = rw (add-one n)
+settled_view (steps.Done top r) n leaves work table = rw (add-one n)
+settled_view (steps.Bad x) n leaves work table = rw (add-one n)
 
 module _ (n leaves now last b : ℕ) (s : Stage) (work table : List ℕ) where
   -- a byte within the limit
   pub reading_one : (q : StageStep) (work' table' : List ℕ) (next : State) → n < limit →
-      view_stage leaves work' table' q ≡ step_stage s (flow_of leaves now last work table) n b → next ≡ stepped (n + 1) leaves q →
+      view_stage leaves work' table' q ≡ step_stage s (flow_of leaves now last work table) n b → next ≡ stepped n leaves q →
       left_with next work' table' ≡ feed_state (state.Reading n leaves now last s) (b ∷ []) work table
   unfolding feed_state step_all step unless
-  reading_one q work' table' next low e same = ap (λ (z : State). left_with z work' table') same ∙ settled_view q (n + 1) leaves work' table' ∙ rw (add-one n, e, past_none n low) refl
+  reading_one q work' table' next low e same = ap (λ (z : State). left_with z work' table') same ∙ settled_view q n leaves work' table' ∙ ap (λ r. fed (settle (suc n) r)) e ∙ rw (past_none n low) refl
 
   -- the byte past the limit: rows 3 and 12, and an entry byte is stored
   pub reading_past : (x : Refusal) (work' : List ℕ) (next : State) → x ≡ over_limit s (flow_of leaves now last work table) limit (refusal 3 limit) →

@@ -1,5 +1,5 @@
 -- What feed answers for the state that it leaves, and the state after a byte.
-use Rattle.std.specs.Prelude.{ℕ}
+use Rattle.std.specs.Prelude.{ℕ, ◌+◌}
 use Rattle.machine.specs.Faults.{refusal}
 use Rattle.state.specs.declared.State.{State}
 use Rattle.state.specs.declared.State.TheVariants as state
@@ -14,8 +14,8 @@ answered (state.Ended n leaves top) = feeds.Read n
 answered (state.Refused n leaves x) = feeds.Refused x
 answered (state.Accepted n leaves top) = feeds.Refused (refusal 22 0)
 
--- the state that a stage's step leads to, after so many bytes
+-- the state that a stage's step at byte `n` leads to
 unfoldable pub stepped : ℕ → ℕ → StageStep → State
-stepped count leaves (steps.Go s r) = state.Reading count r.leaves r.now r.last s
-stepped count leaves (steps.Done top r) = state.Ended count r.leaves top
-stepped count leaves (steps.Bad x) = state.Refused count leaves x
+stepped n leaves (steps.Go s r) = state.Reading (n + 1) r.leaves r.now r.last s
+stepped n leaves (steps.Done top r) = state.Ended (n + 1) r.leaves top
+stepped n leaves (steps.Bad x) = state.Refused (n + 1) leaves x

@@ -84,10 +84,12 @@ fn limit_byte(r: Running, s: Stage, b: u8, work: &mut [u8]) -> State
     past_limit(r.leaves, x)
 }
 
-// The state that a stage's step leads to, after so many bytes.
-pub fn state_after(count: u64, leaves: u64, q: StageStep) -> State
-    ensures { result ≡ stepped count leaves q }
+// The state that a stage's step at byte `n` leads to.
+fn state_after(n: u64, leaves: u64, q: StageStep) -> State
+    requires { n ≤ limit }
+    ensures { result ≡ stepped n leaves q }
 {
+    let count = n + 1;
     match q {
         StageStep::Go(stage, r) => State::Reading {
             count,
@@ -118,7 +120,7 @@ fn reading_byte(n: u64, r: Running, s: Stage, b: u8, work: &mut [u8], table: &mu
         return limit_byte(r, s, b, work);
     }
     let q = stage_byte(s, r, n, b, work, table);
-    state_after(n + 1, r.leaves, q)
+    state_after(n, r.leaves, q)
 }
 
 // A byte after the material: row 21, or row 3 where it is past the limit too.

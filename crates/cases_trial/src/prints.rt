@@ -2,10 +2,10 @@
 use cases_data::text::part;
 use covering::LookupAnswer;
 use libc::STDOUT_FILENO;
-use listing::{heading, leaf_line, refused_line, table_line};
+use listing::{Line, heading, leaf_line, refused_line, table_line};
 use machine::Refusal;
 use state::{FeedAnswer, FinishAnswer};
-use table::{NUMBERS, Record};
+use table::NUMBERS;
 
 pub fn print(text: &[u8]) {
     io::write_all(STDOUT_FILENO, text);
@@ -15,10 +15,13 @@ pub fn print_number(n: u64) {
     io::print_decimal(STDOUT_FILENO, n);
 }
 
+fn print_line(line: Line) {
+    let bytes = line.bytes;
+    print(part(&bytes, 0, line.length));
+}
+
 fn print_refusal(r: Refusal) {
-    let mut line = [0; 192];
-    let n = refused_line(r, &mut line);
-    print(part(&line, 0, n));
+    print_line(refused_line(r));
 }
 
 // `K read`, or a refusal.
@@ -36,10 +39,8 @@ pub fn print_fed(answer: FeedAnswer) {
 
 // The line of the leaf with so many before it, after a `/`.
 fn print_leaf(table: &[u64], i: usize) {
-    let mut line = [0; 192];
-    let n = table_line(table, i, &mut line);
     print(b"/");
-    print(part(&line, 0, n));
+    print_line(table_line(table, i));
 }
 
 fn print_leaves(leaves: u64, table: &[u64]) {
@@ -59,9 +60,7 @@ fn leaf_count(answer: FinishAnswer) -> u64 {
 
 // The whole listing in one line.
 pub fn print_listing(answer: FinishAnswer, table: &[u64]) {
-    let mut line = [0; 192];
-    let n = heading(answer, &mut line);
-    print(part(&line, 0, n));
+    print_line(heading(answer));
     print_leaves(leaf_count(answer), table);
 }
 
@@ -72,17 +71,13 @@ pub fn print_end(answer: FinishAnswer, table: &[u64]) {
     print(b";");
 }
 
-fn print_leaf_line(number: u64, leaf: Record) {
-    let mut line = [0; 192];
-    let n = leaf_line(number, leaf, &mut line);
-    print(part(&line, 0, n));
-}
-
 // The leaf's number and record, or a refusal.
 pub fn print_found(answer: LookupAnswer) {
     print(b" ");
     match answer {
-        LookupAnswer::Found(leaf, r) => print_leaf_line(leaf, r),
+        LookupAnswer::Found(leaf, r) => {
+            print_line(leaf_line(leaf, r));
+        }
         LookupAnswer::Refused(refusal) => print_refusal(refusal),
     }
     print(b";");

@@ -1,18 +1,19 @@
 // Lists the leaves of the segment that comes on standard input: document 01's listing program.
 #![tactic(auto)]
 
-ghost use Rattle.std.specs.Prelude.{◌≡◌, ◌/◌, ◌<◌, length};
-ghost use Rattle.table.specs.Table.{record_numbers};
-ghost use Rattle.listing.specs.Text.{line_most};
+ghost use Rattle.std.specs.Prelude.{◌≡◌, ◌<◌, length};
 
 use feed::{feed, finish, start};
 use libc::{STDIN_FILENO, STDOUT_FILENO};
-use listing::listing;
+use listing::{Line, heading, table_line};
 use state::{FinishAnswer, State};
+use table::NUMBERS;
 
 // Each read but the last gives a byte at least, and a feed refuses byte 268,435,457 if none before it: what is not refused is read
 // in no more turns. What follows a refusal is left after as many.
 const TURNS: u64 = 268435458;
+
+const LINE_END: u8 = 10;
 
 // Four levels of 12,288 bytes.
 fn work_area() -> [u8; 49152]
@@ -72,12 +73,44 @@ fn read_segment(part: &mut [u8], work: &mut [u8], table: &mut [u64]) -> Reading 
     r
 }
 
-// The listing, gathered in lent bytes that have room for it, by one write; whether all of it was taken.
-fn print_listing(answer: FinishAnswer, table: &[u64], text: &mut [u8]) -> bool
-    requires { length table.now / record_numbers < length text.old / line_most }
+// A text of so many bytes and a line's end, by one write; whether all of it was taken.
+fn print_text(bytes: [u8; 192], at: usize) -> bool
+    requires { at < 192 }
 {
-    let n = listing(answer, table, text);
-    io::write_all(STDOUT_FILENO, &text[..n])
+    let mut text = bytes;
+    text[at] = LINE_END;
+    io::write_all(STDOUT_FILENO, &text[..at + 1])
+}
+
+fn print_line(line: Line) -> bool
+    requires { line.length < 192 }
+{
+    let text = line.bytes;
+    let at = line.length;
+    print_text(text, at)
+}
+
+// The table holds every leaf that was counted, since one beyond the room is refused.
+fn print_leaves(leaves: u64, table: &[u64]) -> bool {
+    let held = table.len() / NUMBERS;
+    let mut i: usize = 0;
+    while i < held && (i as u64) < leaves {
+        if !print_line(table_line(table, i)) {
+            return false;
+        }
+        i += 1;
+    }
+    true
+}
+
+fn print_listing(answer: FinishAnswer, table: &[u64]) -> bool {
+    if !print_line(heading(answer)) {
+        return false;
+    }
+    if let FinishAnswer::Listed(leaves) = answer {
+        return print_leaves(leaves, table);
+    }
+    true
 }
 
 // A read that fails says nothing of the segment: it is told on standard error, and nothing is listed.
@@ -93,8 +126,7 @@ fn main() {
     let s = r.state;
     let finished = finish(s);
     let answer = finished.answer;
-    // What was read last is not needed any more: its buffer takes the text.
-    if !print_listing(answer, &table, &mut part) {
+    if !print_listing(answer, &table) {
         os::fail(b"standard output");
     }
 }

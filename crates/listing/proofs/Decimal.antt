@@ -10,7 +10,7 @@ use Rattle.basics.proofs.Picks.{lt_or_ge}
 use Rattle.segment.specs.Constants.{time_limit}
 use Rattle.listing.specs.Text.{digit, decimal_in, decimal}
 use Rattle.listing.specs.Spelling.{spelled_from, Digits, Spells}
-use Rattle.listing.proofs.Laws.{decimal_none, decimal_one, last_apart, tens_below}
+use Rattle.listing.proofs.Laws.{decimal_none, decimal_one, decimal_more}
 
 spelled_last : (n c : ℕ) (cs : List ℕ) → spelled_from n (cs ++ (c ∷ [])) ≡ spelled_from n cs * 10 + (c - 48)
 unfolding spelled_from
@@ -24,6 +24,15 @@ spelled_digit n = omega arith
 spelled_none : spelled_from 0 [] ≡ 0
 unfolding spelled_from
 spelled_none = refl
+
+-- a number of more than one digit: its tens in decimal, then its last digit
+last_apart : (k n : ℕ) → 10 ≤ n → decimal_in (suc k) n ≡ decimal_in k (n / 10) ++ (digit (n % 10) ∷ [])
+last_apart k n h =
+    let e : suc k - 1 ≡ k = omega arith in
+    decimal_more (suc k) n (omega arith) h ∙ ap (λ (j : ℕ). decimal_in j (n / 10) ++ (digit (n % 10) ∷ [])) e
+
+tens_below : (k n : ℕ) → n < 10 ^ suc k → n / 10 < 10 ^ k
+tens_below k n h = let q : n < 10 ^ k * 10 = simp unary_clauses at h in omega arith
 
 read_next : (k n : ℕ) → ((m : ℕ) → m < 10 ^ k → spelled_from 0 (decimal_in k m) ≡ m) → n < 10 ^ suc k → (n < 10) ⊎ (10 ≤ n) → spelled_from 0 (decimal_in (suc k) n) ≡ n
 read_next k n tens h (inl l) = ap (λ (t : List ℕ). spelled_from 0 t) (decimal_one (suc k) n (omega arith) l) ∙ spelled_digit n

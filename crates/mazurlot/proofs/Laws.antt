@@ -72,14 +72,13 @@ module _ (ns : List ℕ) (r : Unpacked) (answered : r ≡ unpack_answer ns) wher
   unfolding unpacked refused_with number_in
   two_refused x e = let gone = was_refused x e in sym (ap number_in (sym answered ∙ e)) ∙ ap (λ (o : Option State). number_in (unpacked o)) gone ∙ sym (ap refused_with gone)
 
--- a state packed over as many numbers as it has
+-- a state packed over as many numbers as it has, or over those of a state
 pub packed_in : (ns : List ℕ) (next : State) → length ns ≡ state_numbers → pack_of next ns ≡ numbers_of next
 unfolding pack_of pick
 packed_in ns next e = rw (eq-eqb (length ns) state_numbers e)
 
--- numbers that are a state's are as many as it has
-pub found_long : (ns : List ℕ) (s : State) → unpack_of ns ≡ some s → length ns ≡ state_numbers
-found_long ns s e = ap length (unpacked_is ns s e).0 ∙ numbers_length s
+pub packed_over : (ns : List ℕ) (s next : State) → unpack_of ns ≡ some s → pack_of next ns ≡ numbers_of next
+packed_over ns s next e = packed_in ns next (ap length (unpacked_is ns s e).0 ∙ numbers_length s)
 
 -- a spot that stands for an answer lies on a record, and the answer is what it gives
 pub spot_told : (table : List ℕ) (a : LookupAnswer) (s : Spot) → Spots table a s → OnRecord table s × (answer_at table s ≡ a)

@@ -1,8 +1,5 @@
 pub mod Laws
 pub mod Numbered
-pub mod Finished
-pub mod Passed
-pub mod SkippedLeaf
 pub mod Cleared
 pub mod Untouched
 pub mod Follows

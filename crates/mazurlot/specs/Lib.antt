@@ -1,5 +1,3 @@
 pub mod Answers
 pub mod Calls
 pub mod Accepted
-pub mod Told
-pub mod Skips

@@ -1,18 +1,55 @@
 // A lookup over the numbers of a state. Of an accepted state few are not 0: these are tested and taken as they stand, and no other state is read.
-ghost use Rattle.std.specs.Prelude.{◌≡◌};
+ghost use Rattle.std.specs.Prelude.{◌&&◌, ◌≡◌, eqb, length};
 ghost use Rattle.numbered.specs.Unpacked.{unpack_of};
 ghost use Rattle.lookup.specs.Spots.{Spots};
 ghost use Rattle.mazurlot.specs.Calls.{look_from};
-ghost use Rattle.mazurlot.specs.Accepted.{refused_with};
+ghost use Rattle.mazurlot.specs.Accepted.{zeros_behind, accepted_numbers, refused_with};
 
-use crate::states::ACCEPTED;
-use crate::told::{TOP, tagged_numbers, top_in};
+use crate::states::{ACCEPTED, USED};
 use lookup::{Spot, look_accepted};
 use moment::Request;
-use pack::{Unpacked, unpack};
+use pack::{STATE_NUMBERS, Unpacked, unpack};
+use state::Top;
 
 // Refused: the state is not accepted.
 const NOT_FINISHED: u64 = 22;
+
+// Whether a number is 0, and all before it were.
+fn zero_too(zeros: bool, n: u64) -> bool
+    ensures { result ≡ (zeros && eqb 0 n) }
+{
+    if n != 0 {
+        return false;
+    }
+    zeros
+}
+
+// Whether the places behind those that an accepted state uses are all 0. All are looked at, whatever they hold: that goes faster.
+fn zeros_behind(numbers: &[u64]) -> bool
+    requires { length numbers.now ≡ 57 }
+    ensures { result ≡ zeros_behind numbers.now }
+{
+    let mut zeros = true;
+    let mut i = USED;
+    while i < STATE_NUMBERS {
+        zeros = zero_too(zeros, numbers[i]);
+        i += 1;
+    }
+    zeros
+}
+
+// Whether numbers are those of an accepted state, in its ranges or not.
+fn accepted_numbers(numbers: &[u64]) -> bool
+    ensures { result ≡ accepted_numbers numbers.now }
+{
+    if numbers.len() != STATE_NUMBERS {
+        return false;
+    }
+    if numbers[0] != ACCEPTED {
+        return false;
+    }
+    zeros_behind(numbers)
+}
 
 // The number that refuses what is no accepted state: 2, then 22.
 fn refused_with(numbers: &[u64]) -> u64
@@ -28,8 +65,13 @@ fn refused_with(numbers: &[u64]) -> u64
 pub(crate) fn look(numbers: &[u64], table: &[u64], request: Request) -> Spot
     ensures { Spots table.now (look_from (unpack_of numbers.now) table.now request) result }
 {
-    if tagged_numbers(numbers, ACCEPTED) {
-        let top = top_in(numbers, TOP);
+    if accepted_numbers(numbers) {
+        let top = Top {
+            id: numbers[3],
+            scale: numbers[4],
+            start: numbers[5],
+            durations: numbers[6],
+        };
         return look_accepted(numbers[1], numbers[2], top, table, request);
     }
     Spot::Refused(refused_with(numbers))

@@ -26,7 +26,7 @@ pub(crate) const NO_STATE: u64 = 2;
 // Refused: the work area is too short.
 pub(crate) const SHORT_WORK: u64 = 1;
 
-pub(crate) const WORK_BYTES: usize = 49152;
+const WORK_BYTES: usize = 49152;
 
 // Where a mark's page stands in its answer.
 const PAGE: usize = 7;

@@ -9,22 +9,18 @@ ghost use Rattle.mazurlot.specs.Calls.{call, start_call, feed_call, finish_call,
 
 use crate::accepted::look;
 use crate::answers::{
-    LOOKUP_VALUES, MARK_VALUES, NO_STATE, ONE_VALUE, brand_bytes, say_found, say_page,
+    LOOKUP_VALUES, MARK_VALUES, NO_STATE, ONE_VALUE, brand_bytes, say_fed, say_finished, say_found,
+    say_nothing_fed, say_page,
 };
-use crate::calls::{feed_any, feed_skipping, feed_state, finish_any, finish_ended};
-use crate::skips::skipping;
-use crate::states::{ENDED, put_start, say_ending};
-use crate::told::{start_in, started, tagged_numbers};
+use crate::states::{put_start, say_ending};
+use feed::{feed, finish};
 use moment::Request;
-use pack::STATE_NUMBERS;
+use pack::{STATE_NUMBERS, Unpacked, pack, unpack};
 use whole::whole_ending;
 
 mod accepted;
 mod answers;
-mod calls;
-mod skips;
 mod states;
-mod told;
 
 // A reading of a segment that has to list this brand, its four bytes as one number.
 #[unsafe(no_mangle)]
@@ -53,14 +49,14 @@ pub extern "C" fn mazurlot_feed(
     if answer.len() < ONE_VALUE {
         return NO_STATE;
     }
-    if started(state) {
-        let s = start_in(state);
-        return feed_state(s, piece, state, work, table, answer);
-    }
-    if skipping(state) {
-        return feed_skipping(piece, state, work, table, answer);
-    }
-    feed_any(piece, state, work, table, answer)
+    let Unpacked::Found(s) = unpack(state) else {
+        return say_nothing_fed(work.len(), answer);
+    };
+    let after = feed(s, piece, work, table);
+    let said = after.answer;
+    let next = after.state;
+    pack(next, state);
+    say_fed(said, answer)
 }
 
 // The end of a segment.
@@ -71,10 +67,14 @@ pub extern "C" fn mazurlot_finish(state: &mut [u64], answer: &mut [u64]) -> u64
     if answer.len() < ONE_VALUE {
         return NO_STATE;
     }
-    if tagged_numbers(state, ENDED) {
-        return finish_ended(state, answer);
-    }
-    finish_any(state, answer)
+    let Unpacked::Found(s) = unpack(state) else {
+        return NO_STATE;
+    };
+    let after = finish(s);
+    let said = after.answer;
+    let next = after.state;
+    pack(next, state);
+    say_finished(said, answer)
 }
 
 // A whole segment. Where there is no place for the state or the answer, it is not read.

@@ -7,16 +7,12 @@ ghost use Rattle.whole.specs.Views.{ending_out};
 ghost use Rattle.mazurlot.specs.Calls.{call, read};
 ghost use Rattle.numbered.specs.Numbers.{state_numbers, numbers_of};
 
-use crate::answers::{SHORT_WORK, say};
+use crate::answers::{SHORT_WORK, brand_bytes, say};
+use feed::start;
 use pack::{STATE_NUMBERS, pack};
-use state::State;
 use whole::Ending;
 
-// The tags of a state: the segment is being read; its material was read; it is refused; it is accepted.
-pub(crate) const READING: u64 = 1;
-
-pub(crate) const ENDED: u64 = 2;
-
+// The tags of a refused and of an accepted state.
 const REFUSED: u64 = 3;
 
 pub(crate) const ACCEPTED: u64 = 4;
@@ -56,70 +52,11 @@ fn put_ended(numbers: &mut [u64], tag: u64, count: u64, leaves: u64, a: u64, b: 
     clear(numbers, USED, HALF);
 }
 
-// The numbers of a reading before its first byte: its tags, the brand, and zeros.
 pub(crate) fn put_start(numbers: &mut [u64], brand: u32)
     requires { length numbers.old ≡ state_numbers }
     ensures { numbers.new ≡ numbers_of (start_of brand) }
 {
-    clear(numbers, HALF, STATE_NUMBERS);
-    clear(numbers, 0, HALF);
-    numbers[0] = READING;
-    numbers[5] = 1;
-    numbers[6] = brand as u64;
-    numbers[7] = 1;
-    numbers[9] = 1;
-}
-
-// The numbers of any state: those of a reading that has ended are put as such.
-pub(crate) fn put_numbers(s: State, numbers: &mut [u64])
-    requires { length numbers.old ≡ state_numbers }
-    ensures { numbers.new ≡ numbers_of s }
-{
-    match s {
-        State::Reading {
-            count: _,
-            leaves: _,
-            now: _,
-            last: _,
-            stage: _,
-        } => {
-            pack(s, numbers);
-        }
-        State::Ended { count, leaves, top } => put_ended(
-            numbers,
-            ENDED,
-            count,
-            leaves,
-            top.id,
-            top.scale,
-            top.start,
-            top.durations,
-        ),
-        State::Refused {
-            count,
-            leaves,
-            refusal,
-        } => put_ended(
-            numbers,
-            REFUSED,
-            count,
-            leaves,
-            refusal.number,
-            refusal.place,
-            0,
-            0,
-        ),
-        State::Accepted { count, leaves, top } => put_ended(
-            numbers,
-            ACCEPTED,
-            count,
-            leaves,
-            top.id,
-            top.scale,
-            top.start,
-            top.durations,
-        ),
-    }
+    pack(start(brand_bytes(brand)), numbers);
 }
 
 // What the whole reader says and leaves where its reading ended so.

@@ -1,12 +1,12 @@
 -- Blocks put one behind the other are one block (`put_then`); numbers put into zeros from their front are padded (`put-into-zeros`).
 use Prim.Native.Nat.{ℕ, zero, suc, ◌+◌, ◌-◌, ◌≤◌, ◌<◌}
 use mathlib.Core.Path.{◌≡◌, refl, sym, ap, ◌∙◌}
-use mathlib.Core.List.{List, [], ◌∷◌, ◌++◌, append-nil}
+use mathlib.Core.List.{List, ◌++◌, append-nil}
 use mathlib.Core.Bool.{true, ◌&&◌}
 use native.Mathlib.Omega.{arith}
 use lib.Dec.{eqb}
-use lib.ListN.{length, replicate, drop, set, get_or, length-replicate, drop_of_length-le}
-use lib.Seq.{drop-cons}
+use lib.ListN.{length, replicate, take, drop, set, get_or, length-replicate, drop_of_length-le}
+use lib.Seq.{drop-cons, take_all, paste-suc}
 use Rattle.basics.specs.Put.{put_all}
 use Rattle.basics.proofs.Put.{put_more, put_between}
 use Rattle.numbered.specs.Numbers.{padded}
@@ -39,15 +39,13 @@ module _ (a b : List ℕ) (i : ℕ) where
   unfolding same_numbers
   same_over h k = rw (drop_of_length-le a h, drop_of_length-le b k)
 
--- places made 0 from the front: one more, and all
-clear_next : (old : List ℕ) (i : ℕ) → i < length old → set (replicate i 0 ++ drop i old) i 0 ≡ replicate (suc i) 0 ++ drop (suc i) old
-clear_next (x ∷ xs) zero h = refl
-clear_next (x ∷ xs) (suc i) h = ap (λ (l : List ℕ). 0 ∷ l) (clear_next xs i (omega arith))
-clear_next [] i h = absurd (omega arith)
+-- numbers written over others from the front: one more, and all
+pub over_more : (old by : List ℕ) (i : ℕ) → i < length old → i < length by → set (take i by ++ drop i old) i (get_or by i 0) ≡ take (i + 1) by ++ drop (i + 1) old
+over_more old by i h k =
+    let e : i ≡ 0 + i = omega arith in
+    let f : i + 1 ≡ 0 + suc i = omega arith in
+    let g : suc i ≡ i + 1 = omega arith in
+    ap (λ n. set (take i by ++ drop n old) n (get_or by i 0)) e ∙ paste-suc old 0 by i 0 (omega arith) k ∙ ap (λ n. take n by ++ drop (0 + suc i) old) g ∙ ap (λ n. take (i + 1) by ++ drop n old) (sym f)
 
-pub clear_one : (old : List ℕ) (i : ℕ) → i < length old → set (replicate i 0 ++ drop i old) i 0 ≡ replicate (i + 1) 0 ++ drop (i + 1) old
-clear_one old i h = let e : suc i ≡ i + 1 = omega arith in clear_next old i h ∙ ap (λ (k : ℕ). replicate k 0 ++ drop k old) e
-
-pub clear_all : (old : List ℕ) (i n : ℕ) → i ≡ n → length old ≡ n → replicate i 0 ++ drop i old ≡ replicate n 0
-clear_all old i n e long =
-    ap (λ (k : ℕ). replicate k 0 ++ drop k old) e ∙ ap (λ (l : List ℕ). replicate n 0 ++ l) (drop_of_length-le old {i = n} (omega (arith, long))) ∙ append-nil (replicate n 0)
+pub over_all : (old by : List ℕ) (i : ℕ) → length old ≤ i → length by ≤ i → take i by ++ drop i old ≡ by
+over_all old by i h k = rw (drop_of_length-le old h, take_all i by k) (append-nil by)

@@ -1,12 +1,11 @@
 // The state as a lent slice of 64-bit numbers, for callers that keep it outside this code; docs/STATE.md, "The state as numbers".
 #![tactic(auto)]
 
-ghost use Rattle.std.specs.Prelude.{◌≡◌, ◌&&◌, eqb, length, replicate};
-ghost use Rattle.numbered.specs.Numbers.{state_numbers};
+ghost use Rattle.std.specs.Prelude.{◌≡◌, length};
 ghost use Rattle.numbered.specs.Unpacked.{same_numbers, pack_of};
 ghost use Rattle.pack.specs.Pack.{pack_answer, unpack_answer};
 
-use crate::put::{numbers_of, put_state};
+use crate::put::numbers_of;
 use crate::take::state_of;
 use machine::Refusal;
 use range::in_range;
@@ -37,38 +36,29 @@ const NO_STATE: Refusal = Refusal {
     place: 0,
 };
 
-// Whether two numbers are the same, and all before them were.
-fn same_too(same: bool, a: u64, b: u64) -> bool
-    ensures { result ≡ (same && eqb a b) }
-{
-    if a != b {
-        return false;
-    }
-    same
-}
-
-// Whether two slices hold the same numbers. All are looked at, whatever they hold: that goes faster.
+// Whether two slices hold the same numbers.
 fn same_numbers(a: &[u64], b: &[u64]) -> bool
     requires { length a.now ≡ length b.now }
     ensures { result ≡ same_numbers a.now b.now }
 {
-    let mut same = true;
     let mut i = 0;
     while i < a.len() {
-        same = same_too(same, a[i], b[i]);
+        if a[i] != b[i] {
+            return false;
+        }
         i += 1;
     }
-    same
+    true
 }
 
-// All 57 places made 0.
-fn clear(numbers: &mut [u64])
-    requires { length numbers.old ≡ state_numbers }
-    ensures { numbers.new ≡ replicate state_numbers 0 }
+// The numbers of one slice written over those of another of its length.
+fn write_over(numbers: &mut [u64], by: &[u64])
+    requires { length numbers.old ≡ length by.now }
+    ensures { numbers.new ≡ by.now }
 {
     let mut i = 0;
-    while i < STATE_NUMBERS {
-        numbers[i] = 0;
+    while i < by.len() {
+        numbers[i] = by[i];
         i += 1;
     }
 }
@@ -80,8 +70,8 @@ pub fn pack(s: State, numbers: &mut [u64]) -> Packed
     if numbers.len() != STATE_NUMBERS {
         return Packed::Refused(NO_STATE);
     }
-    clear(numbers);
-    put_state(numbers, 0, s);
+    let packed = numbers_of(s);
+    write_over(numbers, &packed);
     Packed::Done
 }
 

@@ -517,7 +517,7 @@ fn put_stage(numbers: &mut [u64], at: usize, s: Stage)
     }
 }
 
-pub fn put_state(numbers: &mut [u64], at: usize, s: State)
+fn put_state(numbers: &mut [u64], at: usize, s: State)
     requires { at + 57 ≤ length numbers.old }
     ensures { numbers.new ≡ put_all numbers.old at (used_numbers s) }
 {

@@ -16,14 +16,16 @@ use Rattle.basics.specs.Choose.{pick}
 use Rattle.basics.proofs.Picks.{lt_or_ge}
 use Rattle.machine.specs.Faults.{refusal, shows, unless, lowest}
 use Rattle.machine.specs.Run.{Res, okay, fail, cut, either, after}
+use Rattle.machine.specs.declared.Header.{Header}
 use Rattle.table.specs.Table.{put_record}
 use Rattle.state.specs.Rows.{no_room}
 use Rattle.state.specs.declared.Top.{Top}
 use Rattle.state.specs.declared.Level.{Level}
 use Rattle.state.specs.declared.Slot.{Slot}
 use Rattle.state.specs.declared.Seen.{Seen}
+use Rattle.state.specs.declared.IndexRead.{IndexRead}
 use Rattle.state.specs.declared.StoredEntry.{StoredEntry}
-use Rattle.state.specs.Flow.{Flow, Left, left, listed, level_bytes}
+use Rattle.state.specs.Flow.{Flow, Left, left, with_work, listed, level_bytes}
 use Rattle.state.specs.Calls.{flow_of}
 use Rattle.state.specs.Levels.{altered, entry_at, entry_faults, slot_of, took}
 use Rattle.state.specs.Stages.{leaf_record, inner_level}
@@ -32,20 +34,23 @@ use Rattle.state.proofs.Phases.{Unaltered, unaltered}
 use Rattle.levels.specs.Views.{read_of}
 use Rattle.descent.specs.Whole.{UnderD, slot_d, read_back_d, entry_part_d, entry_parts_d, under_d}
 use Rattle.descent.specs.Leaf.{leaf_d}
+use Rattle.fields.specs.Onward.{on_head}
 use Rattle.fields.proofs.Answers.{not_first}
 use Rattle.fields.specs.declared.HeadRead.{HeadRead}
 use Rattle.fields.specs.declared.HeadRead.TheVariants as head
+use Rattle.fields.specs.contracts.HeadRead as HeadTags
 use Rattle.walk_leaf.specs.contracts.Walked as WalkedTags
+use Rattle.walk_index.specs.contracts.IndexAnswer as IndexTags
 use Rattle.walk_entries.specs.contracts.Went as WentTags
 use Rattle.walk_leaf.specs.Views.{walked_d, seen_of, LeafFixed, LeafWalked, Refuses}
 use Rattle.walk_leaf.specs.declared.Walked.{Walked}
 use Rattle.walk_leaf.specs.declared.Walked.TheVariants as walked
 use Rattle.walk_leaf.specs.declared.Known.{Known}
-use Rattle.walk_index.specs.Views.{IndexFixed}
+use Rattle.walk_index.specs.Views.{index_d, IndexFixed}
 use Rattle.walk_index.specs.declared.IndexAnswer.{IndexAnswer}
 use Rattle.walk_index.specs.declared.IndexAnswer.TheVariants as answer
 use Rattle.walk_entries.specs.Views.{flow_at, went_d, head_went, leaf_went, index_went, HeadLow, LeafLow, IndexLow, below_d, depth_at, entries_d, reading_at}
-use Rattle.walk_entries.specs.Views.{Stands, StandsOn, Carried, SlotAsks, next_entry}
+use Rattle.walk_entries.specs.Views.{Stands, StandsOn, Carried, Asks, SlotAsks}
 use Rattle.walk_entries.specs.declared.Reached.{Reached}
 use Rattle.walk_entries.specs.declared.Went.{Went}
 use Rattle.walk_entries.specs.declared.Went.TheVariants as went
@@ -57,7 +62,15 @@ module _ (base : ℕ) (s : List ℕ) (so : Reached) (work table : List ℕ) wher
   abbrev F : Flow
   F = flow_at so work table
 
-  -- what goes out where a leaf was not read
+  -- what goes out where a header was not read
+  pub head_out : (shown : Header → Flow → ℕ → List ℕ → Res IndexRead Flow Left) (k : IndexRead → Flow → ℕ → List ℕ → Went') (r : HeadRead) →
+      OneOf (1 ∷ 2 ∷ []) (tag_of HeadTags.the_type r) → went_d base s work table (head_went base so.leaves r) ≡ after (on_head left base s F shown r) k
+  unfolding went_d on_head either
+  head_out shown k (head.Read h) t = not_first refl t
+  head_out shown k (head.Bad x) t = refl
+  head_out shown k head.Ended t = refl
+
+  -- where a leaf was not read
   pub leaf_out : (end : ℕ) (k : Seen → Flow → ℕ → List ℕ → Went') (r : Walked) → OneOf (1 ∷ 2 ∷ []) (tag_of WalkedTags.the_type r) →
       went_d base s work table (leaf_went base so.leaves r) ≡ after (walked_d seen_of base s end F r) k
   unfolding went_d walked_d either
@@ -71,6 +84,14 @@ module _ (base : ℕ) (s : List ℕ) (so : Reached) (work table : List ℕ) wher
   full_out end k (walked.Over x) t = absurd t
   full_out end k (walked.Bad x) t = refl
   full_out end k walked.Ended t = refl
+
+  -- where an index was not read
+  pub index_out : (end : ℕ) (work' : List ℕ) (k : IndexRead → Flow → ℕ → List ℕ → Went') (r : IndexAnswer) → OneOf (1 ∷ 2 ∷ []) (tag_of IndexTags.the_type r) →
+      went_d base s work' table (index_went base so.leaves r) ≡ after (index_d base s end (with_work F work') r) k
+  unfolding went_d index_d either
+  index_out end work' k (answer.Read x) t = not_first refl t
+  index_out end work' k (answer.Bad x) t = refl
+  index_out end work' k answer.Ended t = refl
 
 -- A leaf entry.
 module _ (base : ℕ) (s : List ℕ) (so : Reached) (work table : List ℕ) (slot : Slot) (inner : UnderD) (top : Top) (depth end n : ℕ) (bs : List ℕ) (r : Walked)
@@ -246,7 +267,7 @@ stands_wider base s end until end' until' (went.Bad x) a b h = tt
 stands_wider base s end until end' until' (went.Ended n) a b h = tt
 
 -- An entry that stands, by what was read back.
-module _ (l : Level) (base : ℕ) (s : List ℕ) (so : Reached) (stands : Stands base s l.end l.until so) (low : l.end ≤ limit) (more : l.next < l.count) (e : StoredEntry)
+module _ (left : ℕ) (l : Level) (base : ℕ) (s work : List ℕ) (so : Reached) (asks : Asks left l base s work so) (more : l.next < l.count) (e : StoredEntry)
     (fine : altered l e so.now so.n ≡ false) (slot : Slot) (is : slot_of e so.now so.n ≡ slot) where
   ends_within : (slot_of e so.now so.n).end ≤ l.end
   ends_within = at (lt_or_ge (suc l.next) l.count)
@@ -265,31 +286,35 @@ module _ (l : Level) (base : ℕ) (s : List ℕ) (so : Reached) (stands : Stands
   slot_asks =
       let u = unaltered l e so.now so.n fine in
       let some : e.size ≢ 0 = u.some_size in
+      let stands = asks.stands in
       let far = ends_within in
       rw (sym is) (record {
         here = refl;
         some = omega arith;
         end = omega arith;
-        stands = record { after = stands.after; inside = stands.inside; within = omega arith; timely = omega arith; few = stands.few };
+        stands = record { after = omega arith; inside = omega arith; within = omega arith; timely = omega arith; few = omega arith };
       })
 
 -- What an entry that stands carries is what its index's next entry carries.
-module _ (inner : UnderD) (top : Top) (depth : ℕ) (l : Level) (base : ℕ) (s work table work' table' : List ℕ) (so : Reached)
-    (stands : Stands base s l.end l.until so) (low : l.end ≤ limit) (more : l.next < l.count) (there : so.n < base + length s) (r : Went) (kind : Bool) (slot : Slot)
-    (fine : altered l (next_entry depth l work) so.now so.n ≡ false) (kinds : (next_entry depth l work).inner ≡ kind) (is : slot_of (next_entry depth l work) so.now so.n ≡ slot) where
+module _ (left : ℕ) (l : Level) (base : ℕ) (s work table work' table' : List ℕ) (so : Reached) (asks : Asks left l base s work so) (more : l.next < l.count)
+    (there : so.n < base + length s) (top : Top) (r : Went) (inner : Bool) (slot : Slot)
+    (fine : altered l (entry_at work (level_bytes * (depth_at left - 1) + entry_bytes * l.next)) so.now so.n ≡ false)
+    (kind : (entry_at work (level_bytes * (depth_at left - 1) + entry_bytes * l.next)).inner ≡ inner)
+    (is : slot_of (entry_at work (level_bytes * (depth_at left - 1) + entry_bytes * l.next)) so.now so.n ≡ slot) where
   abbrev entry : StoredEntry
-  entry = next_entry depth l work
+  entry = entry_at work (level_bytes * (depth_at left - 1) + entry_bytes * l.next)
 
-  entry_reading : reading_at (slot_d inner top depth kind slot) base s so work table ≡ reading_at (entry_part_d inner top depth l) base s so work table
+  entry_reading : reading_at (slot_d (below_d left top) top (depth_at left) inner slot) base s so work table ≡ reading_at (entry_part_d (below_d left top) top (depth_at left) l) base s so work table
   entry_reading =
-      ap (λ (i : Bool). reading_at (slot_d inner top depth i slot) base s so work table) (sym kinds)
-      ∙ ap (λ (x : Slot). reading_at (slot_d inner top depth entry.inner x) base s so work table) (sym is)
-      ∙ sym (entry_there base s so work table inner top depth l stands.after there ∙ back_stands base s so work table inner top depth l stands.after entry fine)
+      ap (λ (i : Bool). reading_at (slot_d (below_d left top) top (depth_at left) i slot) base s so work table) (sym kind)
+      ∙ ap (λ (x : Slot). reading_at (slot_d (below_d left top) top (depth_at left) entry.inner x) base s so work table) (sym is)
+      ∙ sym (entry_there base s so work table (below_d left top) top (depth_at left) l asks.stands.after there
+      ∙ back_stands base s so work table (below_d left top) top (depth_at left) l asks.stands.after entry fine)
 
-  pub entry_carried : Carried base s slot.end slot.until work table work' table' r (reading_at (slot_d inner top depth kind slot) base s so work table) →
-      Carried base s l.end l.until work table work' table' r (reading_at (entry_part_d inner top depth l) base s so work table)
+  pub entry_carried : Carried base s slot.end slot.until work table work' table' r (reading_at (slot_d (below_d left top) top (depth_at left) inner slot) base s so work table) →
+      Carried base s l.end l.until work table work' table' r (reading_at (entry_part_d (below_d left top) top (depth_at left) l) base s so work table)
   entry_carried c =
-      let w = slot_within l base s so stands low more entry fine slot is in
+      let w = slot_within left l base s work so asks more entry fine slot is in
       record {
         right = c.right ∙ entry_reading;
         work_long = c.work_long;

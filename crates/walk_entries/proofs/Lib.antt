@@ -1,5 +1,3 @@
 pub mod Laws
-pub mod Rows
-pub mod Runs
 pub mod Inner
 pub mod OneOutcome

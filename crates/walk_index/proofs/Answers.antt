@@ -25,7 +25,6 @@ use Rattle.descent.specs.Sidx.{close_d, sidx_d}
 use Rattle.fields.specs.Answers.{number_at, stop_at}
 use Rattle.fields.specs.declared.Stop.{Stop}
 use Rattle.fields.specs.Onward.{from}
-use Rattle.fields.proofs.Answers.{not_first}
 use Rattle.walk_index.specs.Parts.{span_at, wanted_of, draft, sums, fields_d, FieldsFixed, added_d, EntriesFixed, AddedWalked, fields_answer, entries_answer}
 use Rattle.walk_index.specs.Views.{index_d, IndexFixed, SumsFit, IndexWalked}
 use Rattle.walk_index.specs.declared.Wanted.{Wanted}
@@ -65,9 +64,9 @@ fields_out p span wide base s end f (fields.Bad x) h = refl
 fields_out p span wide base s end f fields.Ended h = refl
 
 fields_fixed : (s : List ℕ) (end : ℕ) (r : FieldsRead) → FieldsFixed s end r → OneOf (1 ∷ 2 ∷ []) (tag_of fields-type r) → IndexFixed s end (fields_answer r)
-fields_fixed s end (fields.Read x) g h = not_first refl h
+fields_fixed s end (fields.Read x) g h = tt
 fields_fixed s end (fields.Bad x) g h = g
-fields_fixed s end fields.Ended g h = g
+fields_fixed s end fields.Ended g h = tt
 
 entries_out : (p : Place) (span : Span) (d : Draft) (count end base : ℕ) (s : List ℕ) (f : Flow) (r : EntriesRead) → OneOf (1 ∷ 2 ∷ []) (tag_of entries-type r) →
     index_d base s end f (entries_answer r) ≡ added_d p span d count end base s f r
@@ -78,9 +77,9 @@ entries_out p span d count end base s f (entries.Bad x) h = refl
 entries_out p span d count end base s f entries.Ended h = refl
 
 entries_fixed : (s : List ℕ) (at end : ℕ) (r : EntriesRead) → EntriesFixed s at end r → OneOf (1 ∷ 2 ∷ []) (tag_of entries-type r) → IndexFixed s end (entries_answer r)
-entries_fixed s at end (entries.Read a) g h = not_first refl h
+entries_fixed s at end (entries.Read a) g h = tt
 entries_fixed s at end (entries.Bad x) g h = g
-entries_fixed s at end entries.Ended g h = g
+entries_fixed s at end entries.Ended g h = tt
 
 pub fields_read : (s : List ℕ) (end : ℕ) {r : FieldsRead} {x : Fields} → r ≡ fields.Read x → FieldsFixed s end r → FieldsFixed s end (fields.Read x)
 fields_read s end e h = subst (λ (q : FieldsRead). FieldsFixed s end q) e h

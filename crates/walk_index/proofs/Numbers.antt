@@ -118,15 +118,6 @@ unfolding wide_more
 wide_most true = omega arith
 wide_most false = omega arith
 
--- a box that is not too short has room for the numbers after the version byte, which ends at `next`
-pub version_room : (end v next : ℕ) → (eqb v 1 && ltb end (next + 31)) ≡ false → next + 23 ≤ end → next + (2 * suc (wide_more (eqb v 1)) + 15) ≤ end
-unfolding wide_more
-version_room end v next h k = at (eqb v 1) h
-  where
-    at : (big : Bool) → (big && ltb end (next + 31)) ≡ false → next + (2 * suc (wide_more big) + 15) ≤ end
-    at true q = omega (arith, ltb-false end (next + 31) q)
-    at false q = omega arith
-
 -- a count that is none of the wrong ones
 pub right_count : (v : ℕ) → (eqb v 0 || ltb most_entries v) ≡ false → (1 ≤ v) × (v ≤ most_entries)
 right_count v h = at (eqb v 0) (ltb most_entries v) refl refl h

@@ -73,13 +73,13 @@ module _ (s : List ℕ) (i j : ℕ) (work work' : List ℕ) where
 
   -- the bytes end in it
   pub part_ended : (pos : ℕ) → work' ≡ put_all work i (drop j s) → j ≤ length s → length s < j + 12 →
-      (leb (j + 4) (length s) && eqb (number_at 4 s j % type_bit) 0) ≡ false → (end : ℕ) → j + 12 ≤ end → PartWalked s pos i j end work work' entries.Ended
+      (leb (j + 4) (length s) && eqb (number_at 4 s j % type_bit) 0) ≡ false → (end : ℕ) → PartWalked s pos i j end work work' entries.Ended
   unfolding added_d
-  part_ended pos e here short h end k = record {
+  part_ended pos e here short h end = record {
     right = λ p d count base span more t f place at. sym (entry_cut p span more t base s f work i j place here short h
         ∙ ap (λ (w : List ℕ). ended left base s (with_work f w)) (sym e));
     long = ap length e ∙ put_length work i (drop j s);
-    fixed = λ from. omega arith;
+    fixed = λ from. tt;
   }
 
 -- the numbers of an entry that was taken are small

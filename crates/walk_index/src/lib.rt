@@ -2,7 +2,7 @@
 // Positions count from the first byte lent, which stands at the place `base` of the segment.
 #![tactic(auto)]
 
-ghost use Rattle.std.specs.Prelude.{◌≡◌, Bool, ◌&&◌, not, ℕ, suc, ◌+◌, ◌-◌, ◌*◌, ◌%◌, ◌<◌, ◌≤◌, eqb, leb, length, take, drop};
+ghost use Rattle.std.specs.Prelude.{◌≡◌, Bool, ◌&&◌, not, ℕ, suc, ◌+◌, ◌-◌, ◌%◌, ◌<◌, ◌≤◌, eqb, leb, length, take, drop};
 ghost use Rattle.basics.specs.Put.{put_all};
 ghost use Rattle.segment.specs.Constants.{limit, type_bit, entry_bytes};
 ghost use Rattle.machine.specs.Run.{field_d, plain};
@@ -12,7 +12,7 @@ ghost use Rattle.index.specs.Views.{place_of, Shallow, Timely};
 ghost use Rattle.descent.specs.Sidx.{reserved_d, time_d, flags_d, sidx_d};
 ghost use Rattle.fields.specs.Answers.{farthest, number_at, field_at};
 ghost use Rattle.fields.specs.Onward.{from};
-ghost use Rattle.walk_index.specs.Parts.{span_at, wanted_of, draft, fields_d, least_body, FieldsFixed, word_bytes, EntryWalked, PartWalked, AddedWalked, fields_answer, entries_answer};
+ghost use Rattle.walk_index.specs.Parts.{span_at, wanted_of, draft, fields_d, FieldsFixed, word_bytes, EntryWalked, PartWalked, AddedWalked, fields_answer, entries_answer};
 ghost use Rattle.walk_index.specs.Views.{IndexWalked};
 
 use fields::{FieldRead, Stop, stop_at, word_at};
@@ -132,7 +132,7 @@ fn read_count(
     at: usize,
     end: usize,
 ) -> FieldsRead
-    requires { (at + 2 ≤ end) × (end ≤ limit) × (pos ≤ end) }
+    requires { (at ≤ end + 30) × (end ≤ limit) × (pos ≤ end) }
     ensures { ((p : Place) (wide : Bool) (base : ℕ) (f : Flow) (a : ℕ) → a + 2 ≡ at → a ≤ length bytes.now →
         fields_d p (span_at base pos end) wide base bytes.now f result
         ≡ from left base bytes.now f (field_d left plain (reserved_d p (span_at base pos end) (draft wide id scale time offset)) 2 0) a)
@@ -170,7 +170,7 @@ fn read_times(
     at: usize,
     end: usize,
 ) -> FieldsRead
-    requires { (at + (2 * suc (wide_more big) + 4) ≤ end) × (end ≤ limit) × (pos ≤ end) × (at ≤ length bytes.now) }
+    requires { (at ≤ end + 12) × (end ≤ limit) × (pos ≤ end) × (at ≤ length bytes.now) }
     ensures { ((p : Place) (base : ℕ) (f : Flow) → (wanted_of p).inner ≡ inner → f.now ≡ when →
         fields_d p (span_at base pos end) big base bytes.now f result
         ≡ from left base bytes.now f (field_d left plain (time_d p (span_at base pos end) (draft big id scale 0 0)) (suc (wide_more big)) 0) at)
@@ -203,7 +203,7 @@ fn read_ids(
     at: usize,
     end: usize,
 ) -> FieldsRead
-    requires { (at + (2 * suc (wide_more big) + 12) ≤ end) × (end ≤ limit) × (pos ≤ end) }
+    requires { (at ≤ end + 4) × (end ≤ limit) × (pos ≤ end) }
     ensures { ((p : Place) (base : ℕ) (f : Flow) (a : ℕ) → wanted_of p ≡ w → f.now ≡ when → a + 3 ≡ at → a ≤ length bytes.now →
         fields_d p (span_at base pos end) big base bytes.now f result
         ≡ from left base bytes.now f (field_d left plain (flags_d p (span_at base pos end) (draft big 0 0 0 0)) 3 0) a)
@@ -231,7 +231,7 @@ fn read_ids(
 
 // The numbers of the index at `pos` before its entries, from `at` on.
 fn read_fields(w: Wanted, when: u64, bytes: &[u8], pos: usize, at: usize, end: usize) -> FieldsRead
-    requires { (pos ≤ at) × (at + least_body ≤ end) × (end ≤ limit) × (at ≤ length bytes.now) }
+    requires { (pos ≤ at) × (at ≤ end) × (end ≤ limit) × (at ≤ length bytes.now) }
     ensures { ((p : Place) (base : ℕ) (f : Flow) → wanted_of p ≡ w → f.now ≡ when →
         fields_d p (span_at base pos end) (eqb (number_at 1 bytes.now at) 1) base bytes.now f result
         ≡ from left base bytes.now f (sidx_d p (span_at base pos end)) at)
@@ -408,7 +408,7 @@ pub fn index_walk(
     end: usize,
     work: &mut [u8],
 ) -> IndexAnswer
-    requires { Shallow p × Timely p when × (pos ≤ at) × (at + least_body ≤ end) × (base + end ≤ limit) × (at ≤ length bytes.now) × (work_bytes ≤ length work.old) }
+    requires { Shallow p × Timely p when × (pos ≤ at) × (at ≤ end) × (base + end ≤ limit) × (at ≤ length bytes.now) × (work_bytes ≤ length work.old) }
     ensures { IndexWalked p when base bytes.now pos at end work.old work.new result }
 {
     let w = wanted_at(p);

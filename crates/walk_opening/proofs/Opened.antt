@@ -1,5 +1,5 @@
 -- The opening from its first byte lent on: what the header of the top index, and then the index, make of it.
-use Prim.Native.Nat.{ℕ, suc, ◌+◌, ◌-◌, ◌≤◌, ◌<◌}
+use Prim.Native.Nat.{ℕ, suc, ◌+◌}
 use mathlib.Core.Path.{◌≡◌, refl, ap, sym, subst, ◌∙◌}
 use mathlib.Core.List.{List, [], ◌∷◌}
 use mathlib.Core.Bool.{Bool}
@@ -21,13 +21,12 @@ use Rattle.fields.specs.Onward.{from}
 use Rattle.fields.specs.declared.Stop.{Stop}
 use Rattle.fields.proofs.Answers.{not_first}
 use Rattle.index.specs.declared.Where.TheVariants as places
-use Rattle.walk_index.specs.Parts.{StopIn}
 use Rattle.walk_index.specs.Views.{index_d, IndexFixed, SumsFit, IndexWalked}
 use Rattle.walk_index.specs.declared.IndexAnswer.{IndexAnswer}
 use Rattle.walk_index.specs.declared.IndexAnswer.TheVariants as answer
 use Rattle.walk_index.specs.contracts.IndexAnswer as index-answers
 use Rattle.walk_opening.specs.Views.{opened_d, OpeningFixed, OpeningWalked}
-use Rattle.walk_opening.specs.Steps.{found_answer, index_answer, found_d, FoundFixed, FoundFrom, FoundPast, IndexFound, TopWalked, OpeningCut, OpeningThere}
+use Rattle.walk_opening.specs.Steps.{found_answer, index_answer, found_d, FoundFixed, FoundFrom}
 use Rattle.walk_opening.specs.declared.OpeningAnswer.{OpeningAnswer}
 use Rattle.walk_opening.specs.declared.OpeningAnswer.TheVariants as opens
 use Rattle.walk_opening.specs.declared.Found.{Found}
@@ -52,26 +51,6 @@ pub record Answered (base : ℕ) (s : List ℕ) (end : ℕ) (r : IndexAnswer) (q
   pub same : (g : Flow) → opened_d base s g q ≡ index_d base s end g r
   pub fixed : OpeningFixed s q
   pub sums : Summed base q
-  pub whole : q ≡ opens.Ended → length s < end
-  pub stops : (x : Stop) → q ≡ opens.Bad x → StopIn end x
-
--- a top index that was found: what it answers is what the opening answers
-pub top_walked : (base : ℕ) (s : List ℕ) (h : Header) (work work' : List ℕ) (r : IndexAnswer) (q : OpeningAnswer) →
-    IndexWalked places.Topmost 0 base s h.pos (h.pos + h.head) (h.pos + h.size) work work' r →
-    Answered base s (h.pos + h.size) r q → TopWalked base s h work work' q
-unfolding found_d
-top_walked base s h work work' r q walked answered = record {
-  right = λ f z e.
-      let ends : base + (h.pos + h.size) ≡ base + h.pos + h.size = omega arith in
-      answered.same (with_work f work')
-      ∙ walked.right f z e
-      ∙ ap (λ (n : ℕ). from left base s f (sidx_d topmost (record { pos = base + h.pos; end = n })) (h.pos + h.head)) ends;
-  long = walked.long;
-  fixed = answered.fixed;
-  sums = answered.sums;
-  whole = answered.whole;
-  stops = answered.stops;
-}
 
 module _ (brand : ℕ) (branded : Bool) (base : ℕ) (s : List ℕ) (end : ℕ) (all : base + end ≡ limit) where
   -- from the first byte on
@@ -98,14 +77,21 @@ module _ (brand : ℕ) (branded : Bool) (base : ℕ) (s : List ℕ) (end : ℕ) 
     sums = ended_none base;
   }
 
-  -- a top index that was found
-  pub top_found : (h : Header) (work work' : List ℕ) (r : OpeningAnswer) → FoundFrom brand branded s 0 end (founds.Index h) → TopWalked base s h work work' r →
-      OpeningWalked brand branded base s work work' r
-  top_found h work work' r right walked = record {
-    right = λ f z e. walked.right f z e ∙ whole (founds.Index h) right f;
+  -- an index that was found: what it answers is what the opening answers
+  pub index_walked : (h : Header) (work work' : List ℕ) (r : IndexAnswer) (q : OpeningAnswer) → FoundFrom brand branded s 0 end (founds.Index h) →
+      IndexWalked places.Topmost 0 base s h.pos (h.pos + h.head) (h.pos + h.size) work work' r →
+      Answered base s (h.pos + h.size) r q → OpeningWalked brand branded base s work work' q
+  unfolding found_d
+  index_walked h work work' r q right walked answered = record {
+    right = λ f z e.
+        let ends : base + (h.pos + h.size) ≡ base + h.pos + h.size = omega arith in
+        answered.same (with_work f work')
+        ∙ walked.right f z e
+        ∙ ap (λ (n : ℕ). from left base s f (sidx_d topmost (record { pos = base + h.pos; end = n })) (h.pos + h.head)) ends
+        ∙ whole (founds.Index h) right f;
     long = walked.long;
-    fixed = walked.fixed;
-    sums = walked.sums;
+    fixed = answered.fixed;
+    sums = answered.sums;
   }
 
 -- an index that was not read
@@ -113,20 +99,8 @@ pub index_stopped : (base : ℕ) (s : List ℕ) (end : ℕ) (r : IndexAnswer) �
     Answered base s end r (index_answer r)
 unfolding index_answer opened_d index_d
 index_stopped base s end (answer.Read x) k fixed = not_first refl k
-index_stopped base s end (answer.Bad x) k fixed = record {
-  same = λ g. refl;
-  fixed = fixed.0;
-  sums = bad_none base x;
-  whole = λ e. let z : ◌≡◌ {A = ℕ} 0 1 = cc in absurd (omega arith);
-  stops = λ y e. let p : x ≡ y = cc in rw (← p) fixed;
-}
-index_stopped base s end answer.Ended k fixed = record {
-  same = λ g. refl;
-  fixed = tt;
-  sums = ended_none base;
-  whole = λ e. fixed;
-  stops = λ y e. let z : ◌≡◌ {A = ℕ} 0 1 = cc in absurd (omega arith);
-}
+index_stopped base s end (answer.Bad x) k fixed = record { same = λ g. refl; fixed = fixed.0; sums = bad_none base x }
+index_stopped base s end answer.Ended k fixed = record { same = λ g. refl; fixed = tt; sums = ended_none base }
 
 -- an index that was read
 pub index_read : (base : ℕ) (s : List ℕ) (end : ℕ) (r : IndexAnswer) (x : IndexRead) → r ≡ answer.Read x → IndexFixed s end r →
@@ -136,35 +110,4 @@ index_read base s end r x e fixed sums = record {
   same = λ g. ap (index_d base s end g) (sym e);
   fixed = subst (λ (q : IndexAnswer). IndexFixed s end q) e fixed;
   sums = λ y n k. let p : x ≡ y = cc in let q : end ≡ n = cc in rw (← p, ← q) (sums x e);
-  whole = λ e. let z : ◌≡◌ {A = ℕ} 0 1 = cc in absurd (omega arith);
-  stops = λ y e. let z : ◌≡◌ {A = ℕ} 0 1 = cc in absurd (omega arith);
 }
-
--- The opening where it is all there.
-module _ (brand : ℕ) (branded : Bool) (base : ℕ) (s work : List ℕ) (all : base + (limit - base) ≡ limit) where
-  -- nothing was touched where the bytes end, or a fault comes before the index
-  pub there_none : (r : Found) → IndexFound brand branded s (limit - base) r → FoundPast s r → OpeningThere brand branded base s work work opens.Ended
-  there_none r found past = record {
-    walked = λ e. absurd (e refl);
-    kept = λ e. refl;
-    past = λ e. record { found = r; first = found; past = past };
-    stops = λ x e. let z : ◌≡◌ {A = ℕ} 0 1 = cc in absurd (omega arith);
-  }
-
-  -- no header of the index is there
-  pub not_past : (r : Found) → OneOf (1 ∷ 2 ∷ []) (tag_of found-answers.the_type r) → FoundPast s r
-  not_past (founds.Index h) k = not_first refl k
-  not_past (founds.Bad x) k = tt
-  not_past founds.Ended k = tt
-
-  -- its box ends in the bytes
-  pub there_whole : (h : Header) → IndexFound brand branded s (limit - base) (founds.Index h) → (work' : List ℕ) (r : OpeningAnswer) → h.pos + h.size ≤ length s →
-      TopWalked base s h work work' r → OpeningThere brand branded base s work work' r
-  there_whole h found work' r ends walked =
-      let more : r ≡ opens.Ended → ⊥ = λ e. absurd (omega (arith, walked.whole e)) in
-      record {
-        walked = λ e. top_found brand branded base s (limit - base) all h work work' r found.right walked;
-        kept = λ e. absurd (more e);
-        past = λ e. absurd (more e);
-        stops = λ x e. let (none, place, count) = walked.stops x e in (none, omega (arith, place, ends), omega (arith, count, ends));
-      }

@@ -1,5 +1,5 @@
 -- What a header shows before the material, told by the code's number, where the lent bytes stand in the segment.
-use Prim.Native.Nat.{ℕ, ◌+◌, ◌%◌, ◌≤◌}
+use Prim.Native.Nat.{ℕ, ◌+◌, ◌%◌}
 use mathlib.Core.Path.{◌≡◌, refl, sym, ◌∙◌}
 use mathlib.Core.Bool.{Bool, true, false, not, ◌&&◌, ◌||◌}
 use native.Mathlib.Omega.{arith}
@@ -15,7 +15,6 @@ use Rattle.flaws.specs.Flaws.{flaw_of}
 use Rattle.flaws.proofs.Flaws.{length_tests, length_or}
 use Rattle.flaws.proofs.Places.{opening_flaws, gap_flaws}
 use Rattle.flaws.proofs.Told.{moved_length}
-use Rattle.walk_index.specs.Parts.{least_body}
 use Rattle.walk_opening.specs.Steps.{StypLong}
 
 -- where no number is shown, the length shows none
@@ -59,18 +58,3 @@ styp_long branded h e k =
     let w = styp_tests (eqb h.kind styp) (ltb (body_length h) 8) (eqb (body_length h % 4) 0) (eqb h.kind sidx && ltb (body_length h) 24)
     (sym (length_tests h) ∙ none) (eq-eqb h.kind styp k) in
     record { long = ltb-false (body_length h) 8 w.0; even = eqb-true (body_length h % 4) 0 w.1 }
-
--- a `sidx` that shows no number is long enough for an index
-sidx_tests : (other off short : Bool) → ◌≡◌ {A = ℕ} (pick other 6 (pick (off && short) 6 0)) 0 → off ≡ true → short ≡ false
-unfolding pick
-sidx_tests false true false e z = refl
-sidx_tests true off short e z = absurd (omega arith)
-sidx_tests false true true e z = absurd (omega arith)
-sidx_tests false false short e z = let n : ◌≡◌ {A = ℕ} 0 1 = cc in absurd (omega arith)
-
-pub sidx_long : (branded : Bool) (h : Header) → flaw_of (opening_faults branded h) ≡ 0 → h.kind ≡ sidx → least_body ≤ body_length h
-sidx_long branded h e k =
-    let none = length_none h _ (sym (opening_flaws branded h) ∙ e) in
-    ltb-false (body_length h) least_body
-    (sidx_tests (eqb h.kind styp && (ltb (body_length h) 8 || not (eqb (body_length h % 4) 0))) (eqb h.kind sidx) (ltb (body_length h) 24)
-    (sym (length_tests h) ∙ none) (eq-eqb h.kind sidx k))

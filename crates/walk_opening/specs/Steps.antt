@@ -1,13 +1,13 @@
 -- What the functions of the walk answer one another: a header that was not read, a body that is skipped, brands, a box that is passed,
--- the header of the top index, and the index; and the answer of an opening that is read only where it is all there.
-use Rattle.std.specs.Prelude.{ℕ, zero, suc, ◌+◌, ◌-◌, ◌%◌, ◌≤◌, ◌<◌, ◌≡◌, List, Bool, false, ◌||◌, eqb, ltb, length, drop}
+-- and the header of the top index.
+use Rattle.std.specs.Prelude.{ℕ, zero, suc, ◌+◌, ◌-◌, ◌%◌, ◌≤◌, ◌≡◌, List, Bool, false, ◌||◌, eqb, ltb, length, drop}
 use Rattle.basics.specs.Choose.{pick}
-use Rattle.segment.specs.Constants.{limit}
+use Rattle.segment.specs.Constants.{limit, sidx}
 use Rattle.machine.specs.Run.{Res, okay, after}
 use Rattle.machine.specs.Lists.{boxes_d}
 use Rattle.machine.specs.declared.Header.{Header}
 use Rattle.state.specs.declared.IndexRead.{IndexRead}
-use Rattle.state.specs.Flow.{Flow, Left, left, with_work}
+use Rattle.state.specs.Flow.{Flow, Left, left}
 use Rattle.state.specs.Rows.{body_length}
 use Rattle.state.specs.Sidx.{topmost}
 use Rattle.state.specs.Opening.{OpeningGave, passed, span_of, opening}
@@ -15,15 +15,11 @@ use Rattle.descent.specs.Sidx.{sidx_d}
 use Rattle.descent.specs.Opening.{opening_body_d}
 use Rattle.fields.specs.Answers.{number_at}
 use Rattle.fields.specs.Onward.{placed, stopped, ended, from}
-use Rattle.fields.specs.declared.Stop.{Stop}
 use Rattle.fields.specs.declared.HeadRead.{HeadRead}
 use Rattle.fields.specs.declared.HeadRead.TheVariants as head
-use Rattle.index.specs.declared.Where.TheVariants as places
-use Rattle.walk_index.specs.Parts.{least_body, StopIn}
-use Rattle.walk_index.specs.Views.{SumsFit}
 use Rattle.walk_index.specs.declared.IndexAnswer.{IndexAnswer}
 use Rattle.walk_index.specs.declared.IndexAnswer.TheVariants as answer
-use Rattle.walk_opening.specs.Views.{crossed_d, GapFixed, opened_d, OpeningFixed, OpeningWalked}
+use Rattle.walk_opening.specs.Views.{crossed_d, GapFixed}
 use Rattle.walk_opening.specs.declared.Crossed.{Crossed}
 use Rattle.walk_opening.specs.declared.Crossed.TheVariants as crosses
 use Rattle.walk_opening.specs.declared.OpeningAnswer.{OpeningAnswer}
@@ -96,13 +92,8 @@ found_d base s f (founds.Index h) = from left base s f (sidx_d topmost (span_of 
 found_d base s f (founds.Bad x) = stopped left base s f x
 found_d base s f founds.Ended = ended left base s f
 
--- the header of the top index: its box ends by `end`, and is not too short for an index (row 6)
-pub record TopHere (s : List ℕ) (end : ℕ) (h : Header) : Type 0 where
-  pub here : BoxHere s h.pos end h
-  pub long : least_body ≤ body_length h
-
 abbrev pub FoundFixed : List ℕ → ℕ → Found → Type 0
-FoundFixed s end (founds.Index h) = TopHere s end h
+FoundFixed s end (founds.Index h) = (h.kind ≡ sidx) × BoxHere s h.pos end h
 FoundFixed s end (founds.Bad x) = x.leaves ≡ 0
 FoundFixed s end founds.Ended = Unit {0}
 
@@ -116,32 +107,3 @@ FoundFrom brand branded s at end r =
 pub record IndexFound (brand : ℕ) (branded : Bool) (s : List ℕ) (end : ℕ) (r : Found) : Type 0 where
   pub right : FoundFrom brand branded s 0 end r
   pub fixed : FoundFixed s end r
-
--- The top index whose header is this is read as the descent reads it where the bytes stand; one whose bytes are all there is read or refused.
-pub record TopWalked (base : ℕ) (s : List ℕ) (h : Header) (work work' : List ℕ) (r : OpeningAnswer) : Type 0 where
-  pub right : (f : Flow) → f.now ≡ 0 → f.work ≡ work → opened_d base s (with_work f work') r ≡ found_d base s f (founds.Index h)
-  pub long : length work' ≡ length work
-  pub fixed : OpeningFixed s r
-  pub sums : (x : IndexRead) (end : ℕ) → r ≡ opens.Read x end → SumsFit places.Topmost (base + end) x
-  pub whole : r ≡ opens.Ended → length s < h.pos + h.size
-  pub stops : (x : Stop) → r ≡ opens.Bad x → StopIn (h.pos + h.size) x
-
--- no header of the top index is found in the bytes, or its box ends past them
-abbrev pub FoundPast : List ℕ → Found → Type 0
-FoundPast s (founds.Index h) = length s < h.pos + h.size
-FoundPast s (founds.Bad x) = Unit {0}
-FoundPast s founds.Ended = Unit {0}
-
--- The bytes end before the top index does, or show a fault before it begins.
-pub record OpeningCut (brand : ℕ) (branded : Bool) (base : ℕ) (s : List ℕ) : Type 0 where
-  pub found : Found
-  pub first : IndexFound brand branded s (limit - base) found
-  pub past : FoundPast s found
-
--- The boxes up to the end of the top index, where all of them are there and show no fault before it, are read as the descent reads them; else
--- nothing is touched.
-pub record OpeningThere (brand : ℕ) (branded : Bool) (base : ℕ) (s work work' : List ℕ) (r : OpeningAnswer) : Type 0 where
-  pub walked : (r ≡ opens.Ended → ⊥) → OpeningWalked brand branded base s work work' r
-  pub kept : r ≡ opens.Ended → work' ≡ work
-  pub past : r ≡ opens.Ended → OpeningCut brand branded base s
-  pub stops : (x : Stop) → r ≡ opens.Bad x → StopIn (length s) x

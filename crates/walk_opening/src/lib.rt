@@ -8,7 +8,7 @@ ghost use Rattle.state.specs.Opening.{span_of};
 ghost use Rattle.state.specs.Rows.{opening_faults};
 ghost use Rattle.descent.specs.Opening.{styp_d, opening_body_d};
 ghost use Rattle.flaws.specs.Flaws.{flaw_of};
-ghost use Rattle.walk_opening.specs.Steps.{head_crossed, head_found, crossed_found, found_answer, index_answer, skipped_to, lists_brand, BoxHere, StypLong, BoxPassed, IndexFound, TopHere, TopWalked, OpeningThere};
+ghost use Rattle.walk_opening.specs.Steps.{head_crossed, head_found, crossed_found, found_answer, index_answer, skipped_to, lists_brand, BoxHere, StypLong, BoxPassed, IndexFound};
 ghost use Rattle.walk_opening.specs.Views.{GapWalked, OpeningWalked};
 
 use fields::{HeadRead, Stop, stop_at, word_at};
@@ -209,29 +209,6 @@ fn index_answer(r: IndexAnswer) -> OpeningAnswer
     }
 }
 
-// The top index, whose header was found.
-fn top_index(h: Header, bytes: &[u8], base: u64, work: &mut [u8]) -> OpeningAnswer
-    requires { TopHere bytes.now (limit - base) h × (base ≤ limit) × (work_bytes ≤ length work.old) }
-    ensures { TopWalked base bytes.now h work.old work.new result }
-{
-    let pos = h.pos as usize;
-    let end = (h.pos + h.size) as usize;
-    let index = index_walk(
-        Where::Topmost,
-        0,
-        bytes,
-        base,
-        pos,
-        (h.pos + h.head) as usize,
-        end,
-        work,
-    );
-    let IndexAnswer::Read(x) = index else {
-        return index_answer(index);
-    };
-    OpeningAnswer::Read(x, end)
-}
-
 // The boxes up to the end of the top index, from the first byte lent on, which stands at the place `base`; `branded` where the `styp`
 // stands before them.
 pub fn opening_walk(
@@ -248,26 +225,20 @@ pub fn opening_walk(
     let Found::Index(h) = found else {
         return found_answer(found);
     };
-    top_index(h, bytes, base, work)
-}
-
-// The same where the top index ends in the bytes; where they end before it does, or show a fault before it begins, nothing is touched.
-pub fn opening_there(
-    brand: u64,
-    branded: bool,
-    bytes: &[u8],
-    base: u64,
-    work: &mut [u8],
-) -> OpeningAnswer
-    requires { (base + length bytes.now ≤ limit) × (work_bytes ≤ length work.old) }
-    ensures { OpeningThere brand branded base bytes.now work.old work.new result }
-{
-    let found = find_index(brand, branded, bytes, (LIMIT - base) as usize);
-    let Found::Index(h) = found else {
-        return OpeningAnswer::Ended;
+    let pos = h.pos as usize;
+    let end = (h.pos + h.size) as usize;
+    let index = index_walk(
+        Where::Topmost,
+        0,
+        bytes,
+        base,
+        pos,
+        (h.pos + h.head) as usize,
+        end,
+        work,
+    );
+    let IndexAnswer::Read(x) = index else {
+        return index_answer(index);
     };
-    if bytes.len() < (h.pos + h.size) as usize {
-        return OpeningAnswer::Ended;
-    }
-    top_index(h, bytes, base, work)
+    OpeningAnswer::Read(x, end)
 }

@@ -31,13 +31,12 @@ stage-byte-requires c κs =
       reading_stage a.n a.r.leaves a.r.now a.r.last a.s d.requires.1,
     )
 
-add-state-after : tie.Need-overflow-add-state-after
-add-state-after c =
+state-after-requires : tie.Need-state-after-requires
+state-after-requires c κs =
     let stepped = c.before.before.before.before in
     let d = stepped.before.before.before.before.before.before in
     let a = d.args in
-    let count = reading_count a.n a.r.leaves a.r.now a.r.last a.s d.requires.1 in
-    omega (arith, count)
+    reading_count a.n a.r.leaves a.r.now a.r.last a.s d.requires.1
 
 returns-2 : tie.Need-returns-2
 returns-2 c =
@@ -53,5 +52,5 @@ returns-2 c =
 pub reading_byte_spec : {M : Type 1} → statement M
 reading_byte_spec =
     tie.close
-    (tie.spec limit-byte-requires (search rules) returns stage-byte-requires add-state-after (λ c κs. search rules) (search rules)
+    (tie.spec limit-byte-requires (search rules) returns stage-byte-requires state-after-requires (search rules)
     (search rules) returns-2)

@@ -19,4 +19,4 @@ returns-3 c = rw c.before.q3.given.1
 pub state_after_spec : {M : Type 1} → statement M
 state_after_spec =
     tie.close
-    (tie.spec (search rules) (search rules) (search rules) returns returns-2 returns-3)
+    (tie.spec (search rules) (search rules) (search rules) (search rules) returns returns-2 returns-3)

@@ -33,7 +33,7 @@ returns-2 c =
     let a = start.args in
     λ end h k.
     part_ended a.bytes.now a.i a.j a.work.now _ a.pos rest.store-rest.ensures start.requires.0 start.requires.1
-    (sym size.no_size.ensures ∙ test.if1.false) end h
+    (sym size.no_size.ensures ∙ test.if1.false) end
 
 pub part_entry_spec : {M : Type 1} → statement M
 part_entry_spec =

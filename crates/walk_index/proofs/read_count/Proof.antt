@@ -1,7 +1,7 @@
 -- `walk_index::read_count` meets its contract, by those of `read_field`, `no_count` and `stop_at`, and by the laws of a count.
 use mathlib.Core.Path.{refl, sym, ◌∙◌}
 use native.Mathlib.Omega.{arith}
-use Rattle.fields.proofs.Answers.{field_in, field_out, field_small}
+use Rattle.fields.proofs.Answers.{field_in, field_small}
 use Rattle.walk_index.specs.Parts.{fields_d}
 use Rattle.walk_index.proofs.Numbers.{no_count_there, past_count, count_long, count_wrong, count_read, right_count}
 use borrow.Author.Rules.{rules}
@@ -13,9 +13,7 @@ returns : tie.Need-returns
 unfolding fields_d
 returns c =
     let read = c.before.before in
-    let a = read.before.before.args in
-    let short = field_out a.bytes.now a.at 2 (sym read.read-field.ensures.0 ∙ c.enum_told.given.1) in
-    (λ p wide base f i there here. sym (no_count_there _ _ _ _ _ _ _ _ c.enum_told.given.1 here read.read-field.ensures.0 there), omega arith)
+    (λ p wide base f a there here. sym (no_count_there _ _ _ _ _ _ _ _ c.enum_told.given.1 here read.read-field.ensures.0 there), tt)
 
 mul-if1 : tie.Need-overflow-mul-if1
 mul-if1 c =

@@ -3,9 +3,9 @@ use mathlib.Core.Path.{refl, sym, ◌∙◌}
 use native.Mathlib.Omega.{arith}
 use borrow.Author.Tests.{lt-ltb, le-ltb}
 use Rattle.descent.specs.Sidx.{sidx_d}
-use Rattle.fields.proofs.Answers.{field_in, field_out}
+use Rattle.fields.proofs.Answers.{field_in}
 use Rattle.walk_index.specs.Parts.{fields_d}
-use Rattle.walk_index.proofs.Numbers.{read_in, read_out, version_room, version_short, version_other, version_read}
+use Rattle.walk_index.proofs.Numbers.{read_in, read_out, version_short, version_other, version_read}
 use borrow.Author.Rules.{rules}
 use Rattle.walk_index.proofs.read_fields.Statement.{statement}
 use Rattle.walk_index.proofs.read_fields.Tie as tie
@@ -15,10 +15,7 @@ returns : tie.Need-returns
 unfolding fields_d sidx_d
 returns c =
     let read = c.before.before in
-    let start = read.before.before in
-    let a = start.args in
-    let short = field_out a.bytes.now a.at 1 (sym read.read-field.ensures.0 ∙ c.enum_told.given.1) in
-    (λ p base f hp hn. sym (read_out base _ f _ _ _ read.read-field.ensures.0 start.requires.3 c.enum_told.given.1), omega arith)
+    (λ p base f hp hn. sym (read_out base _ f _ _ _ read.read-field.ensures.0 read.before.before.requires.3 c.enum_told.given.1), tt)
 
 too-short-requires : tie.Need-too-short-requires
 too-short-requires c κs =
@@ -75,14 +72,11 @@ add-read-ids c =
 
 read-ids-requires : tie.Need-read-ids-requires
 read-ids-requires c κs =
-    let test = c.before in
-    let short = test.before in
-    let got = short.before.before in
+    let got = c.before.before.before.before in
     let read = got.before.before in
     let start = read.before.before in
     let a = start.args in
     let whole = field_in a.bytes.now a.at 1 _ _ (sym read.read-field.ensures.0 ∙ got.got.given.1) in
-    let room = version_room a.end got.got.given.0.0 got.got.given.0.1.0 (sym short.too_short.ensures ∙ test.if1.false) (omega arith) in
     (omega arith, start.requires.2, omega arith)
 
 returns-4 : tie.Need-returns-4

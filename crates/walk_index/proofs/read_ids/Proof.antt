@@ -2,7 +2,7 @@
 use mathlib.Core.Path.{refl, ap, sym, ◌∙◌}
 use native.Mathlib.Omega.{arith}
 use borrow.Author.Tests.{eq-eqb, ne_eqb}
-use Rattle.fields.proofs.Answers.{field_in, field_out}
+use Rattle.fields.proofs.Answers.{field_in}
 use Rattle.walk_index.specs.Parts.{fields_d}
 use Rattle.walk_index.specs.declared.Wanted.{Wanted}
 use Rattle.walk_index.proofs.Numbers.{no_id_there, past_id, read_in, read_out, id_other, id_read, scale_none, scale_other, scale_read}
@@ -15,9 +15,7 @@ returns : tie.Need-returns
 unfolding fields_d
 returns c =
     let read = c.before.before in
-    let a = read.before.before.args in
-    let short = field_out a.bytes.now a.at 4 (sym read.read-field.ensures.0 ∙ c.enum_told.given.1) in
-    (λ p base f i hp hn there here. sym (no_id_there _ _ _ _ _ _ _ _ c.enum_told.given.1 here read.read-field.ensures.0 there), omega arith)
+    (λ p base f i hp hn there here. sym (no_id_there _ _ _ _ _ _ _ _ c.enum_told.given.1 here read.read-field.ensures.0 there), tt)
 
 -- another reference ID
 returns-2 : tie.Need-returns-2
@@ -54,13 +52,12 @@ returns-3 c =
     let got = diff.before.before in
     let read = got.before.before in
     let a = read.before.before.args in
-    let whole = field_in a.bytes.now a.at 4 _ _ (sym read.read-field.ensures.0 ∙ got.got.given.1) in
-    let short = field_out a.bytes.now _ 4 (sym read2.read-field2.ensures.0 ∙ c.enum-told2.given.1) in (
+    let whole = field_in a.bytes.now a.at 4 _ _ (sym read.read-field.ensures.0 ∙ got.got.given.1) in (
       λ p base f i hp hn there here.
           sym (past_id p base _ _ _ f _ _ _ _ i got.got.given.1 here read.read-field.ensures.0 there
           ∙ id_read p base _ _ _ f _ _ _ (rw hp (sym diff.differs.ensures ∙ test.if1.false))
           ∙ read_out base _ f _ _ _ read2.read-field2.ensures.0 whole.inside c.enum-told2.given.1),
-      omega arith,
+      tt,
     )
 
 -- timescale 0

@@ -3,7 +3,7 @@ use Prim.Native.Nat.{suc}
 use mathlib.Core.Path.{refl, sym, ◌∙◌}
 use native.Mathlib.Omega.{arith}
 use Rattle.state.specs.Sidx.{wide_more}
-use Rattle.fields.proofs.Answers.{field_in, field_out}
+use Rattle.fields.proofs.Answers.{field_in}
 use Rattle.walk_index.specs.Parts.{fields_d}
 use Rattle.walk_index.proofs.Numbers.{read_in, read_out, time_other, time_read, offset_other, offset_read, wide_most}
 use borrow.Author.Rules.{rules}
@@ -15,10 +15,7 @@ returns : tie.Need-returns
 unfolding fields_d
 returns c =
     let read = c.before.before in
-    let start = read.before.before in
-    let a = start.args in
-    let short = field_out a.bytes.now a.at (suc (wide_more a.big)) (sym read.read-sized.ensures ∙ c.enum_told.given.1) in
-    (λ p base f hp hn. sym (read_out base _ f _ _ _ read.read-sized.ensures start.requires.3 c.enum_told.given.1), omega arith)
+    (λ p base f hp hn. sym (read_out base _ f _ _ _ read.read-sized.ensures read.before.before.requires.3 c.enum_told.given.1), tt)
 
 -- another start time
 returns-2 : tie.Need-returns-2
@@ -59,13 +56,12 @@ returns-3 c =
     let read = got.before.before in
     let start = read.before.before in
     let a = start.args in
-    let whole = field_in a.bytes.now a.at (suc (wide_more a.big)) _ _ (sym read.read-sized.ensures ∙ got.got.given.1) in
-    let short = field_out a.bytes.now _ (suc (wide_more a.big)) (sym read2.read-sized2.ensures ∙ c.enum-told2.given.1) in (
+    let whole = field_in a.bytes.now a.at (suc (wide_more a.big)) _ _ (sym read.read-sized.ensures ∙ got.got.given.1) in (
       λ p base f hp hn.
           sym (read_in base _ f _ _ _ read.read-sized.ensures start.requires.3 got.got.given.1
           ∙ time_read p base _ _ _ f _ _ _ (rw (hp, hn) (sym diff.differs.ensures ∙ test.if1.false))
           ∙ read_out base _ f _ _ _ read2.read-sized2.ensures whole.inside c.enum-told2.given.1),
-      omega arith,
+      tt,
     )
 
 -- a first offset that is not 0

@@ -17,7 +17,7 @@ use Rattle.descent.specs.Opening.{opening_body_d}
 use Rattle.walk_opening.specs.Steps.{BoxPassed, FoundFrom, FoundFixed, IndexFound}
 use Rattle.walk_opening.specs.declared.Crossed.{Crossed}
 use Rattle.walk_opening.specs.declared.Found.{Found}
-use Rattle.walk_opening.proofs.Shown.{styp_long, sidx_long}
+use Rattle.walk_opening.proofs.Shown.{styp_long}
 use Rattle.walk_opening.proofs.Findings.{found_none, found_unread, found_flawed, found_index, found_stopped, found_passed, box_here, index_here}
 use borrow.Author.Rules.{rules}
 use Rattle.walk_opening.proofs.find_index.Statement.{statement}
@@ -95,10 +95,7 @@ returns-3 c =
     let f = c.before.before.before in
     answer f _ (
       found_index (brand f) (s f) (end f) (branded f) (at f) (here f) (h f) (read f) _ (told f) c.before.before.if1.false c.if2.true,
-      record {
-        here = index_here (brand f) (s f) (end f) (branded f) (at f) (here f) (h f) (read f) _ (told f);
-        long = sidx_long (branded f) (h f) (sym (told f) ∙ c.before.before.if1.false) c.if2.true;
-      },
+      (c.if2.true, index_here (brand f) (s f) (end f) (branded f) (at f) (here f) (h f) (read f) _ (told f)),
     )
 
 opening-box-requires : tie.Need-opening-box-requires invariant-loop decreases-loop

@@ -1,45 +1,40 @@
--- `mazurlot::accepted::look` meets its contract, by those of `tagged_numbers`, `top_in`, `look_accepted` and `refused_with`, and by the laws `accepted-looked-up`
+-- `mazurlot::accepted::look` meets its contract, by those of `accepted_numbers`, `look_accepted` and `refused_with`, and by the laws `accepted-looked-up`
 -- and `others-refused`.
 use Prim.Native.Nat.{ℕ, ◌<◌}
 use mathlib.Core.Path.{◌≡◌, sym, ap, subst, ◌∙◌}
 use native.Mathlib.Omega.{arith}
-use lib.ListN.{length, get_or}
+use lib.ListN.{length}
 use Rattle.machine.specs.Faults.{refusal}
-use Rattle.state.specs.declared.Top.{Top}
-use Rattle.state.specs.declared.State.TheVariants as state
-use Rattle.covering.specs.Lookup.{lookup_of}
 use Rattle.covering.specs.declared.LookupAnswer.{LookupAnswer}
 use Rattle.covering.specs.declared.LookupAnswer.TheVariants as looks
 use Rattle.lookup.specs.Spots.{Spots}
-use Rattle.mazurlot.proofs.Numbered.{tagged_long, accepted_looked_up, others_refused}
+use Rattle.mazurlot.proofs.Numbered.{accepted_long, accepted_looked_up, others_refused}
 use borrow.Author.Rules.{rules}
 use Rattle.mazurlot.proofs.accepted.look.Statement.{statement}
 use Rattle.mazurlot.proofs.accepted.look.Tie as tie
 
 -- an accepted state has places enough to be read
 reads : (c : tie.Then1) → length c.before.before.before.before.args.numbers.now ≡ 57
-reads c = tagged_long 4 _ (sym c.before.tagged-numbers.ensures ∙ c.if1.true)
+reads c = accepted_long _ (sym c.before.accepted-numbers.ensures ∙ c.if1.true)
 
 returns : tie.Need-returns
 returns c =
-    let top = c.before.before.before in
-    let test = top.before in
-    let told = sym test.before.tagged-numbers.ensures ∙ test.if1.true in
+    let test = c.before.before.before.before.before.before.before in
+    let told = sym test.before.accepted-numbers.ensures ∙ test.if1.true in
     let a = test.before.before.before.before.args in
-    let ns = a.numbers.now in
-    subst (λ (q : LookupAnswer). Spots a.table.now q c.look-accepted.result)
-    (ap (λ (t : Top). lookup_of (state.Accepted (get_or ns 1 0) (get_or ns 2 0) t) a.table.now a.request) top.top_in.ensures
-    ∙ accepted_looked_up ns a.table.now a.request told)
+    subst (λ (q : LookupAnswer). Spots a.table.now q c.look-accepted.result) (accepted_looked_up a.numbers.now a.table.now a.request told)
     c.look-accepted.ensures
 
 returns-2 : tie.Need-returns-2
 returns-2 c =
     let test = c.before in
-    let told = sym test.before.tagged-numbers.ensures ∙ test.if1.false in
+    let told = sym test.before.accepted-numbers.ensures ∙ test.if1.false in
     ap (λ (n : ℕ). looks.Refused (refusal n 0)) c.refused-with.ensures ∙ others_refused _ _ _ told
 
 pub look_spec : {M : Type 1} → statement M
 look_spec =
     tie.close
-    (tie.spec (search rules) (λ c κs. (reads c, omega arith)) (λ c. let e = reads c.before.before in omega arith) (λ c. let e = reads c.before.before.before in omega arith)
+    (tie.spec (search rules) (λ c. let e = reads c.before in omega arith) (λ c. let e = reads c.before.before in omega arith)
+    (λ c. let e = reads c.before.before.before in omega arith) (λ c. let e = reads c.before.before.before.before in omega arith)
+    (λ c. let e = reads c.before.before.before.before.before in omega arith) (λ c. let e = reads c.before.before.before.before.before.before in omega arith)
     (search rules) returns (search rules) returns-2)

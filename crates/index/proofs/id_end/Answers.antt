@@ -1,0 +1,12 @@
+-- `index::id_end` meets its contract, by that of `unless_shown`, and by the definitions of `fieldEnds`, `idFaults` and `unless`.
+use Rattle.machine.specs.Faults.{unless}
+use Rattle.state.specs.Sidx.{field_ends, id_faults}
+use Rattle.index.proofs.id_end.Goals as goal
+
+pub returns-in-Topmost : goal.returns-in-Topmost
+unfolding field_ends id_faults unless
+returns-in-Topmost c = λ f n. rw c.in-Topmost.is
+
+pub returns-in-Under : goal.returns-in-Under
+unfolding field_ends id_faults
+returns-in-Under c = λ f n. rw c.in-Under.is (c.unless_shown.ensures f)

@@ -1,2 +1,0 @@
-pub mod Leaps
-pub mod Stretches
