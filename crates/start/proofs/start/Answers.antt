@@ -7,4 +7,4 @@ use Rattle.basics.specs.Bytes.{number}
 use Rattle.start.proofs.start.Goals as goal
 
 pub returns : goal.returns
-returns c = ap start_of (c.word_at-spelled.ensures.0 ∙ ap number (take_all 4 c.args.t1 (omega arith)))
+returns c = ap start_of (c.word_at-spelled.ensures.0 ∙ ap number (take_all 4 c.args.brand (omega arith)))

@@ -1,0 +1,22 @@
+-- `number_at_hand::inner_again` meets its contract, by those of `head_again` and `sidx_again`, and by the definition of `innerNumber`.
+use borrow.Author.Rules.{rules}
+use Rattle.state.specs.Numbers.{inner_number}
+use Rattle.state.specs.Sidx.{under}
+use Rattle.state.specs.Levels.{depth}
+use Rattle.number_at_hand.proofs.inner_again.Goals as goal
+
+pub head_again-requires : goal.head_again-requires
+unfolding inner_number
+head_again-requires c = search rules
+
+pub sidx_again-requires : goal.sidx_again-requires
+unfolding inner_number
+sidx_again-requires c = search rules
+
+pub returns-in-Head : goal.returns-in-Head
+unfolding inner_number
+returns-in-Head c = rw (c.in-Head.is, c.head_again.ensures)
+
+pub returns-in-Body : goal.returns-in-Body
+unfolding inner_number
+returns-in-Body c = rw (c.in-Body.is, c.sidx_again.ensures (under top slot (depth ls)))

@@ -1,0 +1,52 @@
+-- `number_at_hand::stage_number` meets its contract, by those of `opening_number`, `gap_number`, `unstored`, `leaf_number` and `inner_number`, by the law `four-within`, and by the definitions
+-- of `stageBounds`, `stageNumber`, `isStored` and `nextPlace`.
+use borrow.Author.Rules.{rules}
+use Rattle.state.specs.Numbers.{stage_number}
+use Rattle.state.specs.Ranges.{stage_bounds, top_bounds, levels_bounds, slot_bounds, inner_bounds}
+use Rattle.state.proofs.RangeTests.{four_within}
+use Rattle.number_at_hand.specs.Views.{is_stored, next_place}
+use Rattle.number_at_hand.proofs.stage_number.Goals as goal
+
+pub opening_number-requires : goal.opening_number-requires
+unfolding stage_bounds stage_number is_stored next_place
+opening_number-requires c = rw c.in-Opening.is at c.requires
+
+pub gap_number-requires : goal.gap_number-requires
+unfolding stage_bounds stage_number is_stored next_place
+gap_number-requires c = search rules
+
+pub unstored-requires : goal.unstored-requires
+unfolding stage_bounds stage_number is_stored next_place
+unstored-requires c = search rules
+
+pub leaf_number-requires : goal.leaf_number-requires
+unfolding stage_bounds stage_number is_stored next_place
+leaf_number-requires c = search rules
+
+pub inner_number-requires : goal.inner_number-requires
+unfolding stage_bounds
+inner_number-requires c = let g = c.s-in-Inner-1.given in
+    let ls = g.0.1.0 in
+    (four_within (top_bounds g.0.0) (levels_bounds ls) (slot_bounds ls g.0.1.1.0 c.args.now) (inner_bounds ls g.0.1.1.1.0)
+    (rw g.1 at c.requires)
+    ).3
+
+pub returns-in-Opening : goal.returns-in-Opening
+unfolding stage_bounds stage_number is_stored next_place
+returns-in-Opening c = rw c.in-Opening.is c.opening_number.ensures
+
+pub returns-in-Gap : goal.returns-in-Gap
+unfolding stage_bounds stage_number is_stored next_place
+returns-in-Gap c = rw c.in-Gap.is c.gap_number.ensures
+
+pub returns-in-Entry : goal.returns-in-Entry
+unfolding stage_bounds stage_number is_stored next_place
+returns-in-Entry c = rw c.in-Entry.is c.unstored.ensures
+
+pub returns-in-Leaf : goal.returns-in-Leaf
+unfolding stage_bounds stage_number is_stored next_place
+returns-in-Leaf c = rw c.in-Leaf.is c.leaf_number.ensures
+
+pub returns-in-Inner : goal.returns-in-Inner
+unfolding stage_bounds stage_number is_stored next_place
+returns-in-Inner c = rw c.in-Inner.is c.inner_number.ensures

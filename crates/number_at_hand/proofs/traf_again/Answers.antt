@@ -1,0 +1,24 @@
+-- `number_at_hand::traf_again` meets its contract, by that of `head_again`, and by the definitions of `trafNumber` and `trafBodyNumber`.
+use borrow.Author.Rules.{rules}
+use Rattle.state.specs.Numbers.{traf_body_number, traf_number}
+use Rattle.number_at_hand.proofs.traf_again.Goals as goal
+
+pub head_again-requires : goal.head_again-requires
+unfolding traf_number traf_body_number
+head_again-requires c = search rules
+
+pub returns-in-Head : goal.returns-in-Head
+unfolding traf_number traf_body_number
+returns-in-Head c = rw (c.in-Head.is, c.head_again.ensures)
+
+pub returns-in-Skip : goal.returns-in-Skip
+unfolding traf_number traf_body_number
+returns-in-Skip c = rw (c.in-Body.is, c.in-Skip.is)
+
+pub returns-in-Rest : goal.returns-in-Rest
+unfolding traf_number traf_body_number
+returns-in-Rest c = rw (c.in-Body.is, c.in-Rest.is)
+
+pub returns-in-Field : goal.returns-in-Field
+unfolding traf_number traf_body_number
+returns-in-Field c = rw (c.in-Body.is, c.in-Field.is)

@@ -1,0 +1,37 @@
+-- `number_at_hand::traf_number` meets its contract, by those of `head_number` and `unstored`, and by the definitions of `trafNumber`, `isStored`, `nextPlace` and `trafBodyNumber`.
+use borrow.Author.Rules.{rules}
+use Rattle.state.specs.Numbers.{traf_body_number, traf_number}
+use Rattle.number_at_hand.specs.Views.{is_stored, next_place}
+use Rattle.number_at_hand.proofs.traf_number.Goals as goal
+
+pub head_number-requires : goal.head_number-requires
+unfolding traf_number is_stored next_place traf_body_number
+head_number-requires c = search rules
+
+pub unstored-requires : goal.unstored-requires
+unfolding traf_number is_stored next_place traf_body_number
+unstored-requires c = search rules
+
+pub unstored-requires-in-Rest : goal.unstored-requires-in-Rest
+unfolding traf_number is_stored next_place traf_body_number
+unstored-requires-in-Rest c = search rules
+
+pub unstored-requires-in-Field : goal.unstored-requires-in-Field
+unfolding traf_number is_stored next_place traf_body_number
+unstored-requires-in-Field c = search rules
+
+pub returns-in-Head : goal.returns-in-Head
+unfolding traf_number is_stored next_place traf_body_number
+returns-in-Head c = rw c.in-Head.is c.head_number.ensures
+
+pub returns-in-Skip : goal.returns-in-Skip
+unfolding traf_number is_stored next_place traf_body_number
+returns-in-Skip c = rw (c.in-Body.is, c.in-Skip.is) c.unstored.ensures
+
+pub returns-in-Rest : goal.returns-in-Rest
+unfolding traf_number is_stored next_place traf_body_number
+returns-in-Rest c = rw (c.in-Body.is, c.in-Rest.is) c.unstored-in-Rest.ensures
+
+pub returns-in-Field : goal.returns-in-Field
+unfolding traf_number is_stored next_place traf_body_number
+returns-in-Field c = rw (c.in-Body.is, c.in-Field.is) c.unstored-in-Field.ensures

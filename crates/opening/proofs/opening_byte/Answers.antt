@@ -1,0 +1,32 @@
+-- `opening::opening_byte` meets its contract, by those of `head_byte`, `opening_head` and `body_byte`, by the laws `head_step` and `body-step`, and by
+-- the definitions of `openingBounds` and `stepOpening`.
+use Prim.Native.Nat.{◌+◌}
+use mathlib.Core.Path.{ap, ◌∙◌}
+use Rattle.state.specs.Calls.{flow_of}
+use Rattle.state.specs.Ranges.{opening_bounds}
+use Rattle.opening.specs.Views.{head_opening}
+use Rattle.state.specs.Opening.{opening, wrap_opening, step_opening}
+use Rattle.header.proofs.Lists.{head_step, body_step}
+use Rattle.opening.proofs.opening_byte.Goals as goal
+
+pub head_byte-requires : goal.head_byte-requires
+unfolding opening_bounds
+head_byte-requires c = let asked = c.requires in (rw c.in-Head.is at asked.0, asked.1)
+
+pub body_byte-requires : goal.body_byte-requires
+unfolding opening_bounds
+body_byte-requires c = let asked = c.requires in
+    (rw c.in-Body.is at asked.0, asked.1, asked.2)
+
+pub returns-in-Head : goal.returns-in-Head
+unfolding step_opening
+returns-in-Head c = let a = c.args in
+    λ leaves at last table.
+    let f = flow_of leaves at last _ table in
+    rw c.in-Head.is
+    (c.opening_head.ensures _ f ∙ ap (head_opening a.brand _ (a.n + 1)) (c.head_byte.ensures f) ∙ head_step (opening a.brand) wrap_opening _ f _ _ _)
+
+pub returns-in-Body : goal.returns-in-Body
+unfolding step_opening
+returns-in-Body c = λ leaves at last table.
+    rw c.in-Body.is (c.body_byte.ensures leaves at last table ∙ body_step (opening c.args.brand) wrap_opening _ _ _ _ _)

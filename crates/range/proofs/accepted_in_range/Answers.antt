@@ -1,0 +1,22 @@
+-- `range::accepted_in_range` meets its contract, by those of `counts_fit`, `top_fits` and `both`, by the law `joined`, and by the definition of
+-- `bounds`.
+use Rattle.state.specs.Ranges.{bounds}
+use Rattle.range.proofs.Joined.{joined}
+use borrow.Author.Rules.{rules}
+use Rattle.range.proofs.accepted_in_range.Goals as goal
+
+pub counts_fit-requires : goal.counts_fit-requires
+unfolding bounds
+counts_fit-requires c = search rules
+
+pub top_fits-requires : goal.top_fits-requires
+unfolding bounds
+top_fits-requires c = search rules
+
+pub both-requires : goal.both-requires
+unfolding bounds
+both-requires c = search rules
+
+pub returns : goal.returns
+unfolding bounds
+returns c = joined _ _ c.both.ensures c.counts_fit.ensures c.top_fits.ensures

@@ -1,0 +1,11 @@
+-- `range::at_most` meets its contract, by the laws `first-fails` and `one_holds`.
+use mathlib.Core.List.{[]}
+use native.Mathlib.Omega.{arith}
+use Rattle.range.proofs.Joined.{first_fails, one_holds}
+use Rattle.range.proofs.at_most.Goals as goal
+
+pub returns-then-b-a : goal.returns-then-b-a
+returns-then-b-a c = first_fails c.args.a c.args.b [] (omega arith)
+
+pub returns : goal.returns
+returns c = one_holds c.args.a c.args.b (omega arith)

@@ -1,0 +1,17 @@
+-- `range::gap_fits` meets its contract, by that of `head_fits`, by the law `all-of-none`, and by the definition of `gapBounds`.
+use Rattle.state.specs.Ranges.{gap_bounds}
+use Rattle.range.proofs.Joined.{all_of_none}
+use borrow.Author.Rules.{rules}
+use Rattle.range.proofs.gap_fits.Goals as goal
+
+pub head_fits-requires : goal.head_fits-requires
+unfolding gap_bounds
+head_fits-requires c = search rules
+
+pub returns-in-Head : goal.returns-in-Head
+unfolding gap_bounds
+returns-in-Head c = rw c.in-Head.is c.head_fits.ensures
+
+pub returns-in-Body : goal.returns-in-Body
+unfolding gap_bounds
+returns-in-Body c = rw c.in-Body.is (all_of_none)

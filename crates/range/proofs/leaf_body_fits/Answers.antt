@@ -1,0 +1,17 @@
+-- `range::leaf_body_fits` meets its contract, by that of `moof_fits`, by the law `all-of-none`, and by the definition of `leafBodyBounds`.
+use Rattle.state.specs.Ranges.{leaf_body_bounds}
+use Rattle.range.proofs.Joined.{all_of_none}
+use borrow.Author.Rules.{rules}
+use Rattle.range.proofs.leaf_body_fits.Goals as goal
+
+pub moof_fits-requires : goal.moof_fits-requires
+unfolding leaf_body_bounds
+moof_fits-requires c = search rules
+
+pub returns-in-Skip : goal.returns-in-Skip
+unfolding leaf_body_bounds
+returns-in-Skip c = rw c.in-Skip.is (all_of_none)
+
+pub returns-in-Moof : goal.returns-in-Moof
+unfolding leaf_body_bounds
+returns-in-Moof c = rw c.in-Moof.is c.moof_fits.ensures

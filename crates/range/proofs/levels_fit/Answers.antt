@@ -1,0 +1,36 @@
+-- `range::levels_fit` meets its contract, by those of `level_fits`, `two_fit`, `three_fit` and `four_fit`, and by the definition of `levelsBounds`.
+use Rattle.state.specs.Ranges.{levels_bounds}
+use borrow.Author.Rules.{rules}
+use Rattle.range.proofs.levels_fit.Goals as goal
+
+pub level_fits-requires : goal.level_fits-requires
+unfolding levels_bounds
+level_fits-requires c = search rules
+
+pub two_fit-requires : goal.two_fit-requires
+unfolding levels_bounds
+two_fit-requires c = search rules
+
+pub three_fit-requires : goal.three_fit-requires
+unfolding levels_bounds
+three_fit-requires c = search rules
+
+pub four_fit-requires : goal.four_fit-requires
+unfolding levels_bounds
+four_fit-requires c = search rules
+
+pub returns-in-One : goal.returns-in-One
+unfolding levels_bounds
+returns-in-One c = rw c.in-One.is c.level_fits.ensures
+
+pub returns-in-Two : goal.returns-in-Two
+unfolding levels_bounds
+returns-in-Two c = rw c.in-Two.is c.two_fit.ensures
+
+pub returns-in-Three : goal.returns-in-Three
+unfolding levels_bounds
+returns-in-Three c = rw c.in-Three.is c.three_fit.ensures
+
+pub returns-in-Four : goal.returns-in-Four
+unfolding levels_bounds
+returns-in-Four c = rw c.in-Four.is c.four_fit.ensures

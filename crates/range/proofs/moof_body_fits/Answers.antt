@@ -1,0 +1,17 @@
+-- `range::moof_body_fits` meets its contract, by that of `traf_fits`, by the law `all-of-none`, and by the definition of `moofBodyBounds`.
+use Rattle.state.specs.Ranges.{moof_body_bounds}
+use Rattle.range.proofs.Joined.{all_of_none}
+use borrow.Author.Rules.{rules}
+use Rattle.range.proofs.moof_body_fits.Goals as goal
+
+pub traf_fits-requires : goal.traf_fits-requires
+unfolding moof_body_bounds
+traf_fits-requires c = search rules
+
+pub returns-in-Skip : goal.returns-in-Skip
+unfolding moof_body_bounds
+returns-in-Skip c = rw c.in-Skip.is (all_of_none)
+
+pub returns-in-Traf : goal.returns-in-Traf
+unfolding moof_body_bounds
+returns-in-Traf c = rw c.in-Traf.is c.traf_fits.ensures

@@ -1,0 +1,25 @@
+-- `range::opening_body_fits` meets its contract, by those of `spelling_fits` and `sidx_fits`, by the law `all-of-none`, and by the definition of `openingBodyBounds`.
+use Rattle.state.specs.Ranges.{opening_body_bounds}
+use Rattle.range.proofs.Joined.{all_of_none}
+use borrow.Author.Rules.{rules}
+use Rattle.range.proofs.opening_body_fits.Goals as goal
+
+pub spelling_fits-requires : goal.spelling_fits-requires
+unfolding opening_body_bounds
+spelling_fits-requires c = search rules
+
+pub sidx_fits-requires : goal.sidx_fits-requires
+unfolding opening_body_bounds
+sidx_fits-requires c = search rules
+
+pub returns-in-Skip : goal.returns-in-Skip
+unfolding opening_body_bounds
+returns-in-Skip c = rw c.in-Skip.is (all_of_none)
+
+pub returns-in-Styp : goal.returns-in-Styp
+unfolding opening_body_bounds
+returns-in-Styp c = rw c.in-Styp.is c.spelling_fits.ensures
+
+pub returns-in-Index : goal.returns-in-Index
+unfolding opening_body_bounds
+returns-in-Index c = rw c.in-Index.is c.sidx_fits.ensures

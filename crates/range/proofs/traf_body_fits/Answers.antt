@@ -1,0 +1,25 @@
+-- `range::traf_body_fits` meets its contract, by those of `traf_most` and `spelling_fits`, by the laws `all-of-none` and `traf-low`, and by the definition of `trafBodyBounds`.
+use Rattle.state.specs.Ranges.{traf_body_bounds}
+use Rattle.range.proofs.Joined.{all_of_none, traf_low}
+use borrow.Author.Rules.{rules}
+use Rattle.range.proofs.traf_body_fits.Goals as goal
+
+pub traf_most-requires : goal.traf_most-requires
+unfolding traf_body_bounds
+traf_most-requires c = search rules
+
+pub spelling_fits-requires : goal.spelling_fits-requires
+unfolding traf_body_bounds
+spelling_fits-requires c = rw c.traf_most.ensures (traf_low c.in-Field.part)
+
+pub returns-in-Skip : goal.returns-in-Skip
+unfolding traf_body_bounds
+returns-in-Skip c = rw c.in-Skip.is (all_of_none)
+
+pub returns-in-Rest : goal.returns-in-Rest
+unfolding traf_body_bounds
+returns-in-Rest c = rw c.in-Rest.is (all_of_none)
+
+pub returns-in-Field : goal.returns-in-Field
+unfolding traf_body_bounds
+returns-in-Field c = rw (c.in-Field.is, ← c.traf_most.ensures) c.spelling_fits.ensures

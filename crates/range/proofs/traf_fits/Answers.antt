@@ -1,0 +1,20 @@
+-- `range::traf_fits` meets its contract, by those of `head_fits` and `traf_body_fits`, and by the definition of `trafBounds`.
+use Rattle.state.specs.Ranges.{traf_bounds}
+use borrow.Author.Rules.{rules}
+use Rattle.range.proofs.traf_fits.Goals as goal
+
+pub head_fits-requires : goal.head_fits-requires
+unfolding traf_bounds
+head_fits-requires c = search rules
+
+pub traf_body_fits-requires : goal.traf_body_fits-requires
+unfolding traf_bounds
+traf_body_fits-requires c = search rules
+
+pub returns-in-Head : goal.returns-in-Head
+unfolding traf_bounds
+returns-in-Head c = rw c.in-Head.is c.head_fits.ensures
+
+pub returns-in-Body : goal.returns-in-Body
+unfolding traf_bounds
+returns-in-Body c = rw c.in-Body.is c.traf_body_fits.ensures

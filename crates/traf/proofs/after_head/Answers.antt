@@ -1,0 +1,15 @@
+-- `traf::after_head` meets its contract, by those of `refused_head`, `worse` and `after_header`, and by the definition of `lift`.
+use Rattle.machine.specs.Run.{lift}
+use Rattle.traf.proofs.after_head.Goals as goal
+
+pub returns-in_default : goal.returns-in_default
+unfolding lift
+returns-in_default c = λ id f. rw (c.worse.ensures, c.refused_head.ensures, c.in_default.is)
+
+pub returns-in-Going : goal.returns-in-Going
+unfolding lift
+returns-in-Going c = λ id f. rw (c.in-Taken.is, c.in-Going.is)
+
+pub returns-in-Read : goal.returns-in-Read
+unfolding lift
+returns-in-Read c = λ id f. rw (c.in-Taken.is, c.in-Read.is) (c.after_header.ensures id f)
