@@ -128,9 +128,9 @@ fn look_beyond(leaves: usize, table: &[u64], t: u64) -> Spot
 
 // A leaf starts and ends at a tick, so it covers a time exactly where it covers the time's whole ticks.
 fn look_among(leaves: u64, scale: u64, table: &[u64], request: Request) -> Spot
-    requires fact_1 { leaves ≤ most_records }
-    requires fact_2 { 0 < scale }
-    requires fact_3 { scale < 2 ^ 32 }
+    requires list_fits { leaves ≤ most_records }
+    requires scaled { 0 < scale }
+    requires scale_fits { scale < 2 ^ 32 }
     ensures { Spots table.now (look_among leaves table.now (moment_of request scale)) result }
 {
     let listed = leaves as usize;

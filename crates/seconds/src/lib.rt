@@ -86,8 +86,8 @@ fn parts_of(x: f64) -> Split
 // digits * scale * 2^12, of up to 97 bits. The highest power that is not past all records makes the lowest digit 2^12 seconds: with so much
 // put in at once, any other power is a shift to the right.
 fn product(digits: u64, scale: u64) -> Wide
-    requires fact_1 { digits < 2 ^ 53 }
-    requires fact_2 { scale < 2 ^ 32 }
+    requires digits_fit { digits < 2 ^ 53 }
+    requires scale_fits { scale < 2 ^ 32 }
     ensures { wide result ≡ digits * scale * 4096 }
 {
     let lower = digits % 4294967296 * scale;
@@ -139,8 +139,8 @@ fn ticks_of(w: Wide) -> Ticks
 
 // The whole ticks of x seconds.
 fn whole_ticks(x: f64, scale: u64) -> Ticks
-    requires fact_1 { 0 < scale }
-    requires fact_2 { scale < 2 ^ 32 }
+    requires scaled { 0 < scale }
+    requires scale_fits { scale < 2 ^ 32 }
     ensures { result ≡ ticks_of (seconds_at x scale) }
 {
     let got = parts_of(x);
@@ -157,8 +157,8 @@ fn whole_ticks(x: f64, scale: u64) -> Ticks
 
 // The whole ticks of a request.
 pub fn ticks_asked(request: Request, scale: u64) -> Ticks
-    requires fact_1 { 0 < scale }
-    requires fact_2 { scale < 2 ^ 32 }
+    requires scaled { 0 < scale }
+    requires scale_fits { scale < 2 ^ 32 }
     ensures { result ≡ ticks_of (moment_of request scale) }
 {
     match request {

@@ -15,8 +15,8 @@ sidx_again-requires c = search rules
 
 pub returns-in-Head : goal.returns-in-Head
 unfolding inner_number
-returns-in-Head c = rw (c.in-Head.is, c.head_again.ensures)
+returns-in-Head c top ls slot = rw (c.in-Head.is, c.head_again.ensures)
 
 pub returns-in-Body : goal.returns-in-Body
 unfolding inner_number
-returns-in-Body c = rw (c.in-Body.is, c.sidx_again.ensures (under top slot (depth ls)))
+returns-in-Body c top ls slot = rw (c.in-Body.is, c.sidx_again.ensures (under top slot (depth ls)))

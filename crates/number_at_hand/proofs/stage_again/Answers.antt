@@ -41,4 +41,4 @@ returns-in-Leaf c = rw (c.in-Leaf.is, c.in_leaf.ensures, c.leaf_again.ensures)
 
 pub returns-in-Inner : goal.returns-in-Inner
 unfolding stage_number
-returns-in-Inner c = let g = c.s-in-Inner-1.given in rw (g.1, c.inner_again.ensures g.0.0 g.0.1.0 g.0.1.1.0)
+returns-in-Inner c = let s = c.in-Inner in rw (s.is, c.inner_again.ensures s.top s.levels s.slot)

@@ -25,11 +25,9 @@ leaf_number-requires c = search rules
 
 pub inner_number-requires : goal.inner_number-requires
 unfolding stage_bounds
-inner_number-requires c = let g = c.s-in-Inner-1.given in
-    let ls = g.0.1.0 in
-    (four_within (top_bounds g.0.0) (levels_bounds ls) (slot_bounds ls g.0.1.1.0 c.args.now) (inner_bounds ls g.0.1.1.1.0)
-    (rw g.1 at c.requires)
-    ).3
+inner_number-requires c = let s = c.in-Inner in
+    let ls = s.levels in
+    (four_within (top_bounds s.top) (levels_bounds ls) (slot_bounds ls s.slot c.args.now) (inner_bounds ls s.first) (rw s.is at c.requires)).3
 
 pub returns-in-Opening : goal.returns-in-Opening
 unfolding stage_bounds stage_number is_stored next_place

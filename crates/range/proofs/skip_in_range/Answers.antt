@@ -27,5 +27,5 @@ both-requires c = search rules
 
 pub returns : goal.returns
 unfolding bounds stage_bounds leaf_bounds leaf_body_bounds
-returns c = joined _ _ c.both.ensures c.counts_fit.ensures
+returns c last stop so = joined _ _ c.both.ensures c.counts_fit.ensures
     (joined _ _ c.both-rest.ensures c.nested_fits.ensures c.slot_fits.ensures)

@@ -10,13 +10,13 @@ pub float_to_bits-bits : goal.float_to_bits-bits
 float_to_bits-bits c = a_number c.args.x c.if-x.false
 
 pub returns-then-bits : goal.returns-then-bits
-returns-then-bits c = split_zero c.args.x c.well-formed.0.1 c.if-bits.true
+returns-then-bits c = split_zero c.args.x c.well_formed.0.1 c.if-bits.true
 
 pub returns-then-bits-ge-INFINITE : goal.returns-then-bits-ge-INFINITE
-returns-then-bits-ge-INFINITE c = split_none c.args.x c.well-formed.0.1 c.if-bits.false c.if-bits-ge-INFINITE.true
+returns-then-bits-ge-INFINITE c = split_none c.args.x c.well_formed.0.1 c.if-bits.false c.if-bits-ge-INFINITE.true
 
 pub returns-then-exponent-eq0 : goal.returns-then-exponent-eq0
-returns-then-exponent-eq0 c = split_subnormal c.args.x c.well-formed.0.1 c.if-bits-ge-INFINITE.false c.if-exponent-eq0.true
+returns-then-exponent-eq0 c = split_subnormal c.args.x c.well_formed.0.1 c.if-bits-ge-INFINITE.false c.if-exponent-eq0.true
 
 pub returns : goal.returns
-returns c = split_normal c.args.x c.well-formed.0.1 c.if-bits-ge-INFINITE.false c.if-exponent-eq0.false
+returns c = split_normal c.args.x c.well_formed.0.1 c.if-bits-ge-INFINITE.false c.if-exponent-eq0.false

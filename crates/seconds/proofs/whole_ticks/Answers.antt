@@ -17,7 +17,7 @@ returns-then-power-gt-MOST_POWER c = let a = c.args in
 
 pub product-requires : goal.product-requires
 product-requires c = let a = c.args in
-    ((the_parts a.x _ c.in-Value.parts c.in-Value.is c.parts_of-got.ensures).small, omega arith)
+    record { digits_fit = (the_parts a.x _ c.in-Value.parts c.in-Value.is c.parts_of-got.ensures).small; scale_fits = omega arith }
 
 pub returns : goal.returns
 returns c = let a = c.args in
