@@ -158,7 +158,7 @@ module _ (t : Bool) (xs : List ℕ) where
   before = 16 + wide t + wide t
 
   entries_at : at_entries ≡ drop before xs
-  entries_at = let q : 8 + (4 + wide t) + (wide t + 4) ≡ before = omega arith in simp drop-drop (rw q)
+  entries_at = let q : 1 + 3 + 4 + 4 + (wide t + wide t) + 2 + 2 ≡ before = omega arith in simp drop-drop (rw q)
 
   -- the bytes of each number are there
   record Rooms : Type 0 where
@@ -186,7 +186,7 @@ module _ (t : Bool) (xs : List ℕ) where
 
   rooms_from : 2 ≤ length at_count → Rooms
   rooms_from h =
-      let q : 8 + (4 + wide t) + (wide t + 2) ≡ before - 2 = omega arith in
+      let q : 1 + 3 + 4 + 4 + (wide t + wide t) + 2 ≡ before - 2 = omega arith in
       let c : at_count ≡ drop (before - 2) xs = simp drop-drop (rw q) in
       rooms (omega (arith, ap length c, length-drop (before - 2) xs))
 

@@ -1,12 +1,13 @@
 -- `spelling::spell_on` meets its contract, by those of `stage_number`, `taken_together` and `stage_on`, and by the laws `others-stay`, `stage-inside`, `count-inside`, `count_fits`,
 -- `place-fits`, `number_fits`, `nothing-taken`, `number-taken-on` and `then-inside`.
+use borrow.Enum.Refused.{opened}
 use Prim.Native.Nat.{ℕ}
 use native.Mathlib.Omega.{arith}
 use Rattle.spelling.proofs.Laws.{others_stay, stage_inside, count_inside, count_fits, place_fits, number_fits, nothing_taken, number_taken_on, then_inside}
 use Rattle.spelling.proofs.spell_on.Goals as goal
 
 pub returns-in_default : goal.returns-in_default
-returns-in_default c = let a = c.args in (others_stay a.s a.piece.now a.i a.work.now c.in_default.keys2, c.requires.1)
+returns-in_default c = let a = c.args in (others_stay a.s a.piece.now a.i a.work.now (opened c.in_default.in_default-own.keys2), c.requires.1)
 
 pub stage_number-x-requires : goal.stage_number-x-requires
 stage_number-x-requires c = stage_inside c.in-Reading.is c.requires.1

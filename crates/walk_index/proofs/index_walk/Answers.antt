@@ -1,4 +1,5 @@
 -- `walk_index::index_walk` meets its contract, by those of the functions that it calls, and by the laws of what goes out of an index.
+use borrow.Enum.Refused.{opened}
 use native.Mathlib.Omega.{arith}
 use Rattle.walk_index.proofs.Answers.{fields_read, entries_read, part_small, numbers_out, entries_stop, sums_wrong, sums_right}
 use Rattle.walk_index.proofs.index_walk.Goals as goal
@@ -8,7 +9,7 @@ pub returns-in_default : goal.returns-in_default
 returns-in_default c = let a = c.args in
     rw c.fields_answer.ensures
     (numbers_out a.p a.when a.base a.bytes.now a.pos a.at a.end a.work.now _ c.wanted_at-w.ensures _
-    c.read_fields-numbers.ensures.0 c.read_fields-numbers.ensures.1 c.in_default.keys2)
+    c.read_fields-numbers.ensures.0 c.read_fields-numbers.ensures.1 (opened c.in_default.in_default-own.keys2))
 
 pub read_entries-entries-requires : goal.read_entries-entries-requires
 read_entries-entries-requires c = let a = c.args in
@@ -21,7 +22,7 @@ pub returns-in_default-entries : goal.returns-in_default-entries
 returns-in_default-entries c = let a = c.args in
     rw c.entries_answer.ensures
     (entries_stop a.p a.when a.base a.bytes.now a.pos a.at a.end a.work.now _ c.wanted_at-w.ensures _
-    c.read_fields-numbers.ensures.0 c.read_fields-numbers.ensures.1 _ c.in-Read.is _ _ c.read_entries-entries.ensures c.in_default-entries.keys2)
+    c.read_fields-numbers.ensures.0 c.read_fields-numbers.ensures.1 _ c.in-Read.is _ _ c.read_entries-entries.ensures (opened c.in_default-entries.in_default-entries-own.keys2))
 
 pub sums_flaw-flaw-requires : goal.sums_flaw-flaw-requires
 sums_flaw-flaw-requires c = let a = c.args in

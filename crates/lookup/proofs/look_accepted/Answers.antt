@@ -1,0 +1,29 @@
+-- `lookup::look_accepted` meets its contract, by those of `accepted_in_range` and `look_among`, by the law `accepted-fits`, and by the definitions
+-- of `lookupOf` and `lookupState`.
+use mathlib.Core.Path.{sym, ◌∙◌, subst}
+use Rattle.basics.proofs.Picks.{pick_yes, pick_no}
+use Rattle.state.specs.declared.State.TheVariants as state
+use Rattle.state.specs.Ranges.{in_range}
+use Rattle.covering.specs.declared.LookupAnswer.{LookupAnswer}
+use Rattle.covering.specs.Lookup.{lookup_state, lookup_of}
+use Rattle.lookup.specs.Spots.{Spots}
+use Rattle.lookup.proofs.Exactly.{accepted_fits}
+use Rattle.lookup.proofs.look_accepted.Goals as goal
+
+pub look_among-requires : goal.look_among-requires
+look_among-requires c = let a = c.args in
+    let fits = accepted_fits a.count a.leaves a.top (sym c.accepted_in_range.ensures ∙ c.if-accepted_in_range.true) in
+    (fits.0, (fits.1, fits.2))
+
+pub returns-then-accepted_in_range : goal.returns-then-accepted_in_range
+unfolding lookup_of lookup_state
+returns-then-accepted_in_range c = let a = c.args in
+    let inside = sym c.accepted_in_range.ensures ∙ c.if-accepted_in_range.true in
+    subst (λ (q : LookupAnswer). Spots a.table.now q c.look_among.result)
+    (sym (pick_yes (in_range (state.Accepted a.count a.leaves a.top)) _ _ inside))
+    c.look_among.ensures
+
+pub returns : goal.returns
+unfolding lookup_of
+returns c = let a = c.args in
+    sym (pick_no (in_range (state.Accepted a.count a.leaves a.top)) _ _ (sym c.accepted_in_range.ensures ∙ c.if-accepted_in_range.false))
