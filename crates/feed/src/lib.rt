@@ -113,7 +113,7 @@ fn turned_away(s: State, number: u64) -> Fed
 // One part of a segment, with the work area and the leaf table lent for it. Checks 1, 2, the kept refusal, 22, then bytes.
 // That a lent part holds bytes is told too: what is proved of lists of bytes then holds of every part that can be lent.
 pub fn feed(s: State, piece: &[u8], work: &mut [u8], table: &mut [u64]) -> Fed
-    ensures table_after { out result.answer result.state work.new table.new ≡ feed_of s piece.now work.old table.old }
+    ensures fed { out result.answer result.state work.new table.new ≡ feed_of s piece.now work.old table.old }
     ensures bytes { AllBytes piece.now }
 {
     if work.len() < WORK_BYTES {

@@ -13,7 +13,7 @@ use Rattle.lookup.proofs.look_accepted.Goals as goal
 pub look_among-requires : goal.look_among-requires
 look_among-requires c = let a = c.args in
     let fits = accepted_fits a.count a.leaves a.top (sym c.accepted_in_range.ensures ∙ c.if-accepted_in_range.true) in
-    (fits.0, (fits.1, fits.2))
+    record { list_fits = fits.0; scaled = fits.1; scale_fits = fits.2 }
 
 pub returns-then-accepted_in_range : goal.returns-then-accepted_in_range
 unfolding lookup_of lookup_state

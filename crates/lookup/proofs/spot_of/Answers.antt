@@ -1,12 +1,11 @@
--- `lookup::spot_of` meets its contract, by those of `not_accepted` and `look_accepted`, by the law `refused-unless-accepted`, and by the definition
+-- `lookup::spot_of` meets its contract, by those of `not_accepted` and `look_accepted`, by the law `refused_unless_accepted`, and by the definition
 -- of `lookupOf`.
 use borrow.Enum.Refused.{opened}
 use mathlib.Core.Path.{◌≡◌, refl, sym, ap, ◌∙◌, subst}
 use mathlib.Core.List.{List, [], ◌∷◌}
 use Prim.Native.Nat.{ℕ}
 use denote.Enum.Declared.{tag_of}
-use types.Run.{miss}
-use borrow.Enum.Refused.{Among}
+use types.Run.{OneOf, miss}
 use Rattle.state.specs.contracts.State.{the_type}
 use Rattle.basics.specs.Choose.{pick}
 use Rattle.machine.specs.Faults.{refusal}
@@ -21,18 +20,18 @@ use Rattle.lookup.specs.Spots.{Spots}
 use Rattle.lookup.proofs.spot_of.Goals as goal
 
 -- a state of the first three cases is not accepted
-refused-unless-accepted : (s : State) (table : List ℕ) (r : Request) → Among (0 ∷ 1 ∷ 2 ∷ []) (tag_of the_type s) → lookup_state s table r ≡ answer.Refused (refusal 22 0)
+refused_unless_accepted : (s : State) (table : List ℕ) (r : Request) → OneOf (0 ∷ 1 ∷ 2 ∷ []) (tag_of the_type s) → lookup_state s table r ≡ answer.Refused (refusal 22 0)
 unfolding lookup_state
-refused-unless-accepted (state.Reading n leaves now last s) table r one = refl
-refused-unless-accepted (state.Ended n leaves top) table r one = refl
-refused-unless-accepted (state.Refused n leaves x) table r one = refl
-refused-unless-accepted (state.Accepted n leaves top) table r one = absurd (miss (0 ∷ 1 ∷ 2 ∷ []) 3 tt one)
+refused_unless_accepted (state.Reading n leaves now last s) table r one = refl
+refused_unless_accepted (state.Ended n leaves top) table r one = refl
+refused_unless_accepted (state.Refused n leaves x) table r one = refl
+refused_unless_accepted (state.Accepted n leaves top) table r one = absurd (miss (0 ∷ 1 ∷ 2 ∷ []) 3 tt one)
 
 pub returns-in_default : goal.returns-in_default
 unfolding lookup_of
 returns-in_default c = let a = c.args in
     c.not_accepted.ensures
-    ∙ sym (ap (λ (q : LookupAnswer). pick (in_range a.s) q (answer.Refused (refusal 2 0))) (refused-unless-accepted a.s a.table.now a.request (opened c.in_default.in_default-own.keys2)))
+    ∙ sym (ap (λ (q : LookupAnswer). pick (in_range a.s) q (answer.Refused (refusal 2 0))) (refused_unless_accepted a.s a.table.now a.request (opened c.in_default.in_default-own.keys2)))
 
 pub returns : goal.returns
 returns c = let a = c.args in
