@@ -1,0 +1,32 @@
+-- `leap_leaf::skipped_ahead` meets its contract, by those of `leaf_skips` and `passing`, and by the law `from-skipped`.
+use Prim.Native.Nat.{ℕ, suc, ◌+◌, ◌-◌}
+use mathlib.Core.Path.{◌≡◌, ap, ◌∙◌}
+use native.Mathlib.Omega.{arith}
+use lib.ListN.{length}
+use Rattle.state.specs.Jump.{leaf_skips, least}
+use Rattle.state.proofs.Jump.{least_first}
+use Rattle.leap_leaf.proofs.Laws.{from_skipped}
+use Rattle.leap_leaf.proofs.skipped_ahead.Goals.{After-passing-k}
+use Rattle.leap_leaf.proofs.skipped_ahead.Goals as goal
+
+module _ (c : After-passing-k) where
+  abbrev Start : tie.Start
+  Start = c
+
+  -- how many bytes pass
+  passes : c.passing-k.result ≡ least (length Start.args.bytes.now - Start.args.i) (leaf_skips Start.args.s - suc (Start.args.n + Start.args.i))
+  passes =
+      c.passing-k.ensures
+      ∙ ap (λ (stop : ℕ). least (length Start.args.bytes.now - Start.args.i) (stop - suc (Start.args.n + Start.args.i))) c.leaf_skips.ensures
+
+pub overflow_add-result : goal.overflow_add-result
+overflow_add-result c =
+    let k = (goal.at.overflow_add-result c).After-passing-k in
+    let start = Start k in
+    omega (arith, start.pre, passes k, least_first (length start.args.bytes.now - start.args.i) (leaf_skips start.args.s - suc (start.args.n + start.args.i)))
+
+pub returns : goal.returns
+returns c id full =
+    let k = (goal.at.returns c).After-passing-k in
+    let a = (Start k).args in
+    from_skipped id a.slot full a.n a.bytes.now a.s a.i _ (Start k).requires.1 (passes k)
