@@ -1,6 +1,6 @@
 -- A header, and a box over any body, by structure: accepted where the bytes start with a box of the tree, with that box.
 use Prim.Native.Nat.{ℕ, suc, ◌+◌, ◌-◌, ◌*◌, ◌≤◌, ◌<◌}
-use mathlib.Core.Path.{◌≡◌, refl, ap, sym, ◌∙◌}
+use mathlib.Core.Path.{◌≡◌, refl, ap, sym, ◌∙◌, subst}
 use mathlib.Core.List.{List, [], ◌∷◌, ◌++◌, append_assoc, append-nil}
 use mathlib.Core.Option.{Option, none}
 use mathlib.Core.Bool.{not, ◌&&◌}
@@ -37,7 +37,10 @@ module _ {X : Type 0} (end : ℕ) (f : Flow) (n : ℕ) (K : Header → Flow → 
   head_field : (bs : List ℕ) → upon (head_d left end f n bs) K ≡ pick (clean (under_eight end n)) (upon (size_d bs) K) none
   unfolding head_d upon field_d
   head_field [] = sym (pick_if (clean (under_eight end n)) (λ o. o) _ _ none (λ e. refl) (λ e. refl))
-  head_field (b ∷ bs) = let z : 0 * 256 + b ≡ b = omega arith in rw z (upon_unless (under_eight end n) (left f) (suc n) _ K)
+  head_field (b ∷ bs) =
+      let z : 0 * 256 + b ≡ b = omega arith in
+      subst (λ (m : ℕ). upon (head_d left end f n (b ∷ bs)) K ≡ pick (clean (under_eight end n)) (upon (field_d left plain kind_d 3 m f (suc n) bs) K) none)
+      (sym z) (upon_unless (under_eight end n) (left f) (suc n) _ K)
 
   head_under : (bs : List ℕ) → end < n + 8 → upon (head_d left end f n bs) K ≡ none
   unfolding pick

@@ -1,0 +1,5 @@
+-- `mazurlot::mazurlot_lookup_seconds` meets its contract, by that of `look_up`.
+use Rattle.mazurlot.proofs.mazurlot_lookup_seconds.Goals as goal
+
+pub returns : goal.returns
+returns c = c.look_up.ensures
