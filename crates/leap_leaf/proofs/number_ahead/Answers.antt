@@ -10,37 +10,34 @@ use Rattle.leap_leaf.proofs.number_ahead.Goals.{After-least-k}
 use Rattle.leap_leaf.proofs.number_ahead.Goals as goal
 
 module _ (c : After-least-k) where
-  abbrev Start : tie.Start
-  Start = c
-
   -- how many bytes are taken
-  takes : c.least-k.result ≡ least (leaf_number Start.args.s).more (length Start.args.bytes.now - Start.args.i)
-  takes = c.least-k.ensures ∙ ap (λ (m : ℕ). least m (length Start.args.bytes.now - Start.args.i)) (ap (λ x. x.more) Start.pre.1)
+  takes : c.least-k.result ≡ least (leaf_number c.args.s).more (length c.args.bytes.now - c.args.i)
+  takes = c.least-k.ensures ∙ ap (λ (m : ℕ). least m (length c.args.bytes.now - c.args.i)) (ap (λ x. x.more) c.requires.1)
 
 pub spell_bytes-acc-requires : goal.spell_bytes-acc-requires
 spell_bytes-acc-requires c =
     let k = (goal.at.spell_bytes-acc-requires c).After-least-k in
-    let a = (Start k).args in
-    let pre = (Start k).requires in
+    let a = c.args in
+    let pre = c.requires in
     let there = taken_there a.s a.bytes.now a.i _ (takes k) in
     (omega (arith, there, pre.3), rw pre.1 (spelled_fits a.s a.bytes.now a.i _ (takes k) pre.0))
 
 pub overflow_sub-x : goal.overflow_sub-x
 overflow_sub-x c =
     let k = (goal.at.overflow_sub-x c).After-least-k in
-    let a = (Start k).args in
-    rw (Start k).requires.1 (taken_more a.s a.bytes.now a.i _ (takes k))
+    let a = c.args in
+    rw c.requires.1 (taken_more a.s a.bytes.now a.i _ (takes k))
 
 pub overflow_add-result : goal.overflow_add-result
 overflow_add-result c =
     let k = (goal.at.overflow_add-result c).After-least-k in
-    let a = (Start k).args in
-    omega (arith, taken_there a.s a.bytes.now a.i _ (takes k), (Start k).requires.3)
+    let a = c.args in
+    omega (arith, taken_there a.s a.bytes.now a.i _ (takes k), c.requires.3)
 
 pub returns : goal.returns
 returns c id full n =
     let k = (goal.at.returns c).After-least-k in
-    let a = (Start k).args in
-    let pre = (Start k).requires in
+    let a = c.args in
+    let pre = c.requires in
     from_told a.s a.bytes.now a.i _ (takes k) a.x pre.1 pre.2 id a.slot full n _ c.leaf_again.result pre.3
     c.spell_bytes-acc.ensures c.leaf_again.ensures

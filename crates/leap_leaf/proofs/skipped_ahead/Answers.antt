@@ -10,23 +10,19 @@ use Rattle.leap_leaf.proofs.skipped_ahead.Goals.{After-passing-k}
 use Rattle.leap_leaf.proofs.skipped_ahead.Goals as goal
 
 module _ (c : After-passing-k) where
-  abbrev Start : tie.Start
-  Start = c
-
   -- how many bytes pass
-  passes : c.passing-k.result ≡ least (length Start.args.bytes.now - Start.args.i) (leaf_skips Start.args.s - suc (Start.args.n + Start.args.i))
+  passes : c.passing-k.result ≡ least (length c.args.bytes.now - c.args.i) (leaf_skips c.args.s - suc (c.args.n + c.args.i))
   passes =
       c.passing-k.ensures
-      ∙ ap (λ (stop : ℕ). least (length Start.args.bytes.now - Start.args.i) (stop - suc (Start.args.n + Start.args.i))) c.leaf_skips.ensures
+      ∙ ap (λ (stop : ℕ). least (length c.args.bytes.now - c.args.i) (stop - suc (c.args.n + c.args.i))) c.leaf_skips.ensures
 
 pub overflow_add-result : goal.overflow_add-result
 overflow_add-result c =
     let k = (goal.at.overflow_add-result c).After-passing-k in
-    let start = Start k in
-    omega (arith, start.pre, passes k, least_first (length start.args.bytes.now - start.args.i) (leaf_skips start.args.s - suc (start.args.n + start.args.i)))
+    omega (arith, c.requires, passes k, least_first (length c.args.bytes.now - c.args.i) (leaf_skips c.args.s - suc (c.args.n + c.args.i)))
 
 pub returns : goal.returns
 returns c id full =
     let k = (goal.at.returns c).After-passing-k in
-    let a = (Start k).args in
-    from_skipped id a.slot full a.n a.bytes.now a.s a.i _ (Start k).requires.1 (passes k)
+    let a = c.args in
+    from_skipped id a.slot full a.n a.bytes.now a.s a.i _ c.requires.1 (passes k)
