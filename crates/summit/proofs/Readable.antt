@@ -5,6 +5,7 @@ use mathlib.Core.Path.{◌≡◌, refl, ap}
 use mathlib.Core.List.{List, [], ◌∷◌, map}
 use contract.Lifetimes.{Lfts}
 use denote.Ref.{Bor}
+use denote.MutBor.{MutBor}
 use Rattle.basics.specs.Bytes.{number, AllBytes}
 use Rattle.basics.proofs.Bytes.{bytes_first, bytes_second}
 use Rattle.state.specs.declared.State.{State}
@@ -22,6 +23,10 @@ use Rattle.summit.specs.Calls.{StartCall, FeedCall, FinishCall, LookupCall, piec
 lent : {X : Type 0} → X → Bor X
 lent x = record { ref_ptr = (0, 0); now = x }
 
+-- and where it may be written
+lent_whole : {X : Type 0} → X → MutBor X
+lent_whole x = record { ref_ptr = (0, 0); ghost_name = 0; now = x }
+
 module _ (κs : Lfts 3) where
   starting : List ℕ → StartCall
   starting letters = record { lifetimes = tt; given = (letters, tt); result = start_of (number letters); left = (tt, tt); promised = λ met. refl }
@@ -30,12 +35,12 @@ module _ (κs : Lfts 3) where
   finishing s = record { lifetimes = tt; given = (s, tt); result = record { answer = (finish_of s).answer; state = (finish_of s).state }; left = (tt, tt); promised = λ met. refl }
 
   feeding : (h : Held) (part : List ℕ) → AllBytes part → FeedCall
-  unfolding lent
+  unfolding lent lent_whole
   feeding h part bytes =
       let o : Out FeedAnswer = feed_held h part in
       record {
         lifetimes = κs;
-        given = (h.state, (lent part, (lent h.work, (lent h.table, tt))));
+        given = (h.state, (lent part, (lent_whole h.work, (lent_whole h.table, tt))));
         result = record { answer = o.answer; state = o.state };
         left = (tt, (tt, (o.work, (o.table, tt))));
         promised = λ met. (refl, bytes);
@@ -49,12 +54,12 @@ module _ (κs : Lfts 3) where
       feeding h part (bytes_first part (joined parts) bytes) ∷ feeding_all parts (held_after (feed_held h part)) (bytes_second part (joined parts) bytes)
 
   fed_pieces : (parts : List (List ℕ)) (h : Held) (bytes : AllBytes (joined parts)) → map piece_of (feeding_all parts h bytes) ≡ parts
-  unfolding feeding_all feeding lent
+  unfolding feeding_all feeding lent lent_whole
   fed_pieces [] h bytes = refl
   fed_pieces (part ∷ parts) h bytes = ap (λ (ps : List (List ℕ)). part ∷ ps) (fed_pieces parts (held_after (feed_held h part)) (bytes_second part (joined parts) bytes))
 
   fed_in_order : (parts : List (List ℕ)) (h : Held) (bytes : AllBytes (joined parts)) → InOrder h (feeding_all parts h bytes) (feed_all h parts)
-  unfolding feeding_all feeding lent InOrder feed_all
+  unfolding feeding_all feeding lent lent_whole InOrder feed_all
   fed_in_order [] h bytes = refl
   fed_in_order (part ∷ parts) h bytes = (refl, fed_in_order parts (held_after (feed_held h part)) (bytes_second part (joined parts) bytes))
 

@@ -26,4 +26,4 @@ returns c =
     let is = was_found _ _ c.unpack.ensures _ c.in-Found.is in
     rw (le-ltb _ _ c.if-answer-lt-ONE_VALUE.false, is)
     (same_call c.say_fed.ensures.0 c.say_fed.ensures.1 (c.pack.ensures.1 ∙ packed_over _ _ _ is)
-    ∙ ap (λ (o : Out FeedAnswer). saying (of_feed o.answer) slot (numbers_of o.state) o.work o.table) c.feed-after.ensures.0)
+    ∙ ap (λ (o : Out FeedAnswer). saying (of_feed o.answer) slot (numbers_of o.state) o.work o.table) c.feed-after.ensures.fed)

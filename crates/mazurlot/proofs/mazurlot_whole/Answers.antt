@@ -23,8 +23,8 @@ returns c =
     let args = c.args in
     let named = c.brand_bytes.ensures in
     rw (le-ltb _ _ c.if-answer-lt-ONE_VALUE.false, eq-eqb _ _ c.if-state-ne-STATE_NUMBERS.false)
-    (c.say_ending.ensures c.whole_ending-ending.new.1.1.0 c.whole_ending-ending.new.1.1.1.0
+    (c.say_ending.ensures c.whole_ending-ending.new.work c.whole_ending-ending.new.table
     ∙ ap (λ (o : Out FinishAnswer). read o args.answer.now)
-    (ap (λ (b : ℕ). ending_out b c.whole_ending-ending.new.1.1.0 c.whole_ending-ending.new.1.1.1.0 c.whole_ending-ending.result) (sym named)
+    (ap (λ (b : ℕ). ending_out b c.whole_ending-ending.new.work c.whole_ending-ending.new.table c.whole_ending-ending.result) (sym named)
     ∙ c.whole_ending-ending.ensures
     ∙ ap (λ (b : ℕ). whole_of b args.segment.now args.work.now args.table.now) named))
