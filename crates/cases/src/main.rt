@@ -8,23 +8,29 @@ use cases_cuttings::{Tally, print_tally};
 use cases_data::files::read_file;
 use cases_data::text::part;
 use lines::{LineKind, run_lines};
+use std::rt::Files;
 
 // The lines of one file of data. No segment has more than 65,536 bytes: the second half of the bytes stays zeros.
-fn run_file(path: &[u8], kind: LineKind, before: Tally) -> Tally {
+fn run_file(
+    rt: &(impl Files + Print + Eprint),
+    path: &[u8],
+    kind: LineKind,
+    before: Tally,
+) -> Tally {
     let mut buffer = [0u8; 524288];
     let mut bytes = [0u8; 131072];
-    let n = read_file(path, &mut buffer);
-    run_lines(kind, part(&buffer, 0, n), &mut bytes, before)
+    let n = read_file(rt, path, &mut buffer);
+    run_lines(rt, kind, part(&buffer, 0, n), &mut bytes, before)
 }
 
-fn main() {
+fn main(rt: HostRuntime) {
     let none = Tally {
         segments: 0,
         cuttings: 0,
     };
-    let made = run_file(b"segments.tsv", LineKind::Made, none);
-    let vectors = run_file(b"vectors.tsv", LineKind::Vector, made);
-    let all = run_file(b"real.tsv", LineKind::Real, vectors);
-    run_file(b"scripts.tsv", LineKind::Script, none);
-    print_tally(all);
+    let made = run_file(&rt, b"segments.tsv", LineKind::Made, none);
+    let vectors = run_file(&rt, b"vectors.tsv", LineKind::Vector, made);
+    let all = run_file(&rt, b"real.tsv", LineKind::Real, vectors);
+    run_file(&rt, b"scripts.tsv", LineKind::Script, none);
+    print_tally(&rt, all);
 }

@@ -33,8 +33,8 @@ fn whole_alike(segment: &[u8], end: End, work: &[u8], table: &[u64]) -> bool
 }
 
 // What is said where the reading is not alike.
-pub fn check_whole(segment: &[u8], end: End, work: &[u8], table: &[u64]) {
+pub fn check_whole(rt: &impl Print, segment: &[u8], end: End, work: &[u8], table: &[u64]) {
     if !whole_alike(segment, end, work, table) {
-        print(b" differs from the whole reader");
+        print(rt, b" differs from the whole reader");
     }
 }
