@@ -2,6 +2,8 @@
 // The file `stdout` has what document 01 asks for. A line has `differs` only where a reading in pieces is not that of the whole.
 #![tactic(auto)]
 
+ghost use Rattle.std.specs.Prelude.{◌≡◌, length};
+
 mod lines;
 
 use cases_cuttings::{Tally, print_tally};
@@ -10,6 +12,19 @@ use cases_data::text::part;
 use lines::{LineKind, run_lines};
 use std::rt::Files;
 
+// The buffers: only their lengths matter, and a contract that says no more keeps what they hold out of the proof of `run_file`.
+fn text_buffer() -> [u8; 524288]
+    ensures { 524288 ≡ length result }
+{
+    [0; 524288]
+}
+
+fn segment_buffer() -> [u8; 131072]
+    ensures { 131072 ≡ length result }
+{
+    [0; 131072]
+}
+
 // The lines of one file of data. No segment has more than 65,536 bytes: the second half of the bytes stays zeros.
 fn run_file(
     rt: &(impl Files + Print + Eprint),
@@ -17,8 +32,8 @@ fn run_file(
     kind: LineKind,
     before: Tally,
 ) -> Tally {
-    let mut buffer = [0u8; 524288];
-    let mut bytes = [0u8; 131072];
+    let mut buffer = text_buffer();
+    let mut bytes = segment_buffer();
     let n = read_file(rt, path, &mut buffer);
     run_lines(rt, kind, part(&buffer, 0, n), &mut bytes, before)
 }
