@@ -36,16 +36,16 @@ fn numbers_up_to(old: &[u64], new: &[u64], from: usize, alike: bool) -> usize
 }
 
 // Two numbers: a run's start and length, or zeros after the last run.
-fn put_two(out: &mut [u8], at: usize, a: u64, b: u64) -> usize {
-    let next = put_number(out, at, a);
-    put_number(out, next, b)
+fn put_two(rt: &impl Print, out: &mut [u8], at: usize, a: u64, b: u64) -> usize {
+    let next = put_number(rt, out, at, a);
+    put_number(rt, out, next, b)
 }
 
 // Where a run starts and how long it is.
-fn put_place(out: &mut [u8], at: usize, from: usize, to: usize) -> usize
+fn put_place(rt: &impl Print, out: &mut [u8], at: usize, from: usize, to: usize) -> usize
     requires { from ≤ to }
 {
-    put_two(out, at, from as u64, (to - from) as u64)
+    put_two(rt, out, at, from as u64, (to - from) as u64)
 }
 
 // Of a buffer whose second half is the copy of its first: how far its first n bytes are as they were, or are not, from a place on.
@@ -90,6 +90,7 @@ fn take_over_numbers(both: &mut [u64], half: usize, from: usize, to: usize)
 
 // A run of bytes, written and taken over.
 fn put_bytes_run(
+    rt: &impl Print,
     both: &mut [u8],
     half: usize,
     from: usize,
@@ -99,13 +100,14 @@ fn put_bytes_run(
 ) -> usize
     requires { (from ≤ to) × (half + to ≤ length both.old) }
 {
-    let next = put_place(out, at, from, to);
-    let last = put_bytes(out, next, &both[from..to]);
+    let next = put_place(rt, out, at, from, to);
+    let last = put_bytes(rt, out, next, &both[from..to]);
     take_over_bytes(both, half, from, to);
     last
 }
 
 fn put_numbers_run(
+    rt: &impl Print,
     both: &mut [u64],
     half: usize,
     from: usize,
@@ -115,40 +117,52 @@ fn put_numbers_run(
 ) -> usize
     requires { (from ≤ to) × (half + to ≤ length both.old) }
 {
-    let next = put_place(out, at, from, to);
-    let last = put_numbers(out, next, &both[from..to]);
+    let next = put_place(rt, out, at, from, to);
+    let last = put_numbers(rt, out, next, &both[from..to]);
     take_over_numbers(both, half, from, to);
     last
 }
 
 // All runs of the first n bytes that are not as they were. At `from` the bytes differ, so that a run has one byte at least.
-pub fn put_changed_bytes(both: &mut [u8], n: usize, out: &mut [u8], at: usize) -> usize {
+pub fn put_changed_bytes(
+    rt: &impl Print,
+    both: &mut [u8],
+    n: usize,
+    out: &mut [u8],
+    at: usize,
+) -> usize {
     let half = both.len() / 2;
     if half < n {
-        return put_two(out, at, 0, 0);
+        return put_two(rt, out, at, 0, 0);
     }
     let mut next = at;
     let mut from = bytes_alike(both, half, n, 0, true);
     while from < n {
         let to = bytes_alike(both, half, n, from + 1, false);
-        next = put_bytes_run(both, half, from, to, out, next);
+        next = put_bytes_run(rt, both, half, from, to, out, next);
         from = bytes_alike(both, half, n, to, true);
     }
-    put_two(out, next, 0, 0)
+    put_two(rt, out, next, 0, 0)
 }
 
 // All runs of the first n numbers that are not as they were.
-pub fn put_changed_numbers(both: &mut [u64], n: usize, out: &mut [u8], at: usize) -> usize {
+pub fn put_changed_numbers(
+    rt: &impl Print,
+    both: &mut [u64],
+    n: usize,
+    out: &mut [u8],
+    at: usize,
+) -> usize {
     let half = both.len() / 2;
     if half < n {
-        return put_two(out, at, 0, 0);
+        return put_two(rt, out, at, 0, 0);
     }
     let mut next = at;
     let mut from = numbers_alike(both, half, n, 0, true);
     while from < n {
         let to = numbers_alike(both, half, n, from + 1, false);
-        next = put_numbers_run(both, half, from, to, out, next);
+        next = put_numbers_run(rt, both, half, from, to, out, next);
         from = numbers_alike(both, half, n, to, true);
     }
-    put_two(out, next, 0, 0)
+    put_two(rt, out, next, 0, 0)
 }

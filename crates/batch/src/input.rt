@@ -1,6 +1,6 @@
 // Commands from standard input.
 use fields::{FieldRead, field_at};
-use libc::STDIN_FILENO;
+use std::io::Read;
 
 const HEAD_BYTES: usize = 24;
 
@@ -26,10 +26,10 @@ pub fn number_at(bytes: &[u8], at: usize) -> u64 {
     n
 }
 
-pub fn read_command() -> Command {
-    let mut head = [0; 24];
-    let n = io::read_full(STDIN_FILENO, &mut head);
-    if n < HEAD_BYTES {
+// A read that fails ends the input too.
+pub fn read_command(input: &mut impl Read) -> Command {
+    let mut head = [0; HEAD_BYTES];
+    if input.read_exact(&mut head).is_err() {
         return Command {
             kind: 0,
             a: 0,
@@ -44,7 +44,7 @@ pub fn read_command() -> Command {
 }
 
 // The bytes that follow a command; whether all of them came.
-pub fn read_part(part: &mut [u8], n: usize) -> bool {
+pub fn read_part(input: &mut impl Read, part: &mut [u8], n: usize) -> bool {
     if n == 0 {
         return true;
     }
@@ -52,5 +52,5 @@ pub fn read_part(part: &mut [u8], n: usize) -> bool {
         return false;
     }
     let from = 0;
-    io::read_full(STDIN_FILENO, &mut part[from..n]) == n
+    input.read_exact(&mut part[from..n]).is_ok()
 }

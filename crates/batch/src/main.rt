@@ -12,6 +12,7 @@ use crate::lending::{
 };
 use crate::output::{put_number, put_numbers, write_out};
 use pack::STATE_NUMBERS;
+use std::io::Read;
 
 mod calls;
 mod changes;
@@ -56,6 +57,7 @@ fn closed(lent: Lent) -> Lent {
 
 // What is written of a call: the answer, the state, and what is not as it was.
 fn put_answer(
+    rt: &impl Print,
     said: [u64; 9],
     lent: Lent,
     state: &mut [u64],
@@ -64,12 +66,12 @@ fn put_answer(
     out: &mut [u8],
 ) {
     let numbers = first_numbers(state, lent.state);
-    let mut at = put_numbers(out, 0, &said);
-    at = put_number(out, at, numbers.len() as u64);
-    at = put_numbers(out, at, numbers);
-    at = put_changed_bytes(work, lent.work, out, at);
-    at = put_changed_numbers(table, lent.table, out, at);
-    write_out(out, at);
+    let mut at = put_numbers(rt, out, 0, &said);
+    at = put_number(rt, out, at, numbers.len() as u64);
+    at = put_numbers(rt, out, at, numbers);
+    at = put_changed_bytes(rt, work, lent.work, out, at);
+    at = put_changed_numbers(rt, table, lent.table, out, at);
+    write_out(rt, out, at);
 }
 
 // A command's call: what is lent is as long as was said.
@@ -204,6 +206,8 @@ fn lend(
 
 // One command. What is not of the form ends the program, as the input's end does.
 fn serve(
+    rt: &impl Print,
+    input: &mut impl Read,
     lent: Lent,
     part: &mut [u8],
     state: &mut [u64],
@@ -211,19 +215,19 @@ fn serve(
     table: &mut [u64],
     out: &mut [u8],
 ) -> Lent {
-    let c = read_command();
+    let c = read_command(input);
     let behind = bytes_behind(c);
     if MOST_PART < behind {
         return closed(lent);
     }
     let n = behind as usize;
-    if !read_part(part, n) {
+    if !read_part(input, part, n) {
         return closed(lent);
     }
     let given = first_of(part, n);
     if c.kind <= 7 {
         let said = serve_call(c, lent, given, state, work, table);
-        put_answer(said, lent, state, work, table, out);
+        put_answer(rt, said, lent, state, work, table, out);
         return lent;
     }
     lend(c, lent, given, state, work, table)
@@ -231,6 +235,8 @@ fn serve(
 
 // All commands. At first a state of zeros, which is none, a work area of zeros and an empty table are lent.
 fn serve_all(
+    rt: &impl Print,
+    input: &mut impl Read,
     part: &mut [u8],
     state: &mut [u64],
     work: &mut [u8],
@@ -245,7 +251,7 @@ fn serve_all(
     };
     let mut turns = TURNS;
     while turns > 0 && lent.open {
-        lent = serve(lent, part, state, work, table, out);
+        lent = serve(rt, input, lent, part, state, work, table, out);
         turns -= 1;
     }
 }
@@ -269,11 +275,20 @@ fn table_buffer() -> [u64; 65536]
     [0; 65536]
 }
 
-fn main() {
+fn out_buffer() -> [u8; 65536]
+    ensures { 65536 ≡ length result }
+{
+    [0; 65536]
+}
+
+fn main(rt: HostRuntime) {
     let mut part = part_buffer();
     let mut state: [u64; 64] = [0; 64];
     let mut work = work_buffer();
     let mut table = table_buffer();
-    let mut out = io::large_buffer();
-    serve_all(&mut part, &mut state, &mut work, &mut table, &mut out);
+    let mut out = out_buffer();
+    let mut input = rt.stdin();
+    serve_all(
+        &rt, &mut input, &mut part, &mut state, &mut work, &mut table, &mut out,
+    );
 }

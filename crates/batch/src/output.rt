@@ -1,46 +1,44 @@
 // What is written goes through a buffer, which is written out when it is full and after each answer.
 ghost use Rattle.std.specs.Prelude.{◌+◌, ◌≤◌, ◌≡◌, length};
 
-use libc::STDOUT_FILENO;
-
 // How long the buffer is at least: a number has eight bytes.
 const NUMBER_BYTES: usize = 8;
 
 // Writes what the buffer holds. A write that fails is not told: the reader of this program's output sees that it ends.
-pub fn write_out(out: &[u8], at: usize) {
+pub fn write_out(rt: &impl Print, out: &[u8], at: usize) {
     let from = 0;
     if at <= out.len() {
-        io::write_all(STDOUT_FILENO, &out[from..at]);
+        let _ = rt.write_all(&out[from..at]);
     }
 }
 
 // Where in the buffer the next eight bytes have room: behind what it holds, or at its start once that was written.
-fn room(out: &[u8], at: usize) -> usize
+fn room(rt: &impl Print, out: &[u8], at: usize) -> usize
     requires { 8 ≤ length out.now }
     ensures { result + 8 ≤ length out.now }
 {
     if at <= out.len() - NUMBER_BYTES {
         return at;
     }
-    write_out(out, at);
+    write_out(rt, out, at);
     0
 }
 
-fn put_byte(out: &mut [u8], at: usize, b: u8) -> usize {
+fn put_byte(rt: &impl Print, out: &mut [u8], at: usize, b: u8) -> usize {
     if out.len() < NUMBER_BYTES {
         return at;
     }
-    let i = room(out, at);
+    let i = room(rt, out, at);
     out[i] = b;
     i + 1
 }
 
 // A number, its highest byte first.
-pub fn put_number(out: &mut [u8], at: usize, n: u64) -> usize {
+pub fn put_number(rt: &impl Print, out: &mut [u8], at: usize, n: u64) -> usize {
     if out.len() < NUMBER_BYTES {
         return at;
     }
-    let i = room(out, at);
+    let i = room(rt, out, at);
     out[i] = (n / 72057594037927936) as u8;
     out[i + 1] = (n / 281474976710656 % 256) as u8;
     out[i + 2] = (n / 1099511627776 % 256) as u8;
@@ -52,21 +50,21 @@ pub fn put_number(out: &mut [u8], at: usize, n: u64) -> usize {
     i + 8
 }
 
-pub fn put_bytes(out: &mut [u8], at: usize, bytes: &[u8]) -> usize {
+pub fn put_bytes(rt: &impl Print, out: &mut [u8], at: usize, bytes: &[u8]) -> usize {
     let mut next = at;
     let mut i = 0;
     while i < bytes.len() {
-        next = put_byte(out, next, bytes[i]);
+        next = put_byte(rt, out, next, bytes[i]);
         i += 1;
     }
     next
 }
 
-pub fn put_numbers(out: &mut [u8], at: usize, numbers: &[u64]) -> usize {
+pub fn put_numbers(rt: &impl Print, out: &mut [u8], at: usize, numbers: &[u64]) -> usize {
     let mut next = at;
     let mut i = 0;
     while i < numbers.len() {
-        next = put_number(out, next, numbers[i]);
+        next = put_number(rt, out, next, numbers[i]);
         i += 1;
     }
     next

@@ -4,6 +4,7 @@ use cases_data::files::read_file;
 use cases_data::text::{decode, field, line_at, next_line, part};
 use cases_script::run_script;
 use cases_trial::prints::{print, print_number};
+use std::rt::Files;
 
 // What a file's lines are.
 #[derive(Clone, Copy)]
@@ -18,53 +19,73 @@ pub enum LineKind {
     Script,
 }
 
-fn load(kind: LineKind, line: &[u8], into: &mut [u8]) -> usize {
+fn load(rt: &(impl Files + Eprint), kind: LineKind, line: &[u8], into: &mut [u8]) -> usize {
     match kind {
         LineKind::Made => decode(field(line, 1), into),
         LineKind::Vector => decode(field(line, 0), into),
-        LineKind::Real => read_file(field(line, 0), into),
+        LineKind::Real => read_file(rt, field(line, 0), into),
         LineKind::Script => decode(field(line, 1), into),
     }
 }
 
-fn print_name(kind: LineKind, line: &[u8], k: u64) {
+fn print_name(rt: &impl Print, kind: LineKind, line: &[u8], k: u64) {
     match kind {
         LineKind::Vector => {
-            print(b"vector ");
-            print_number(k);
+            print(rt, b"vector ");
+            print_number(rt, k);
         }
-        _ => print(field(line, 0)),
+        _ => print(rt, field(line, 0)),
     }
-    print(b":");
+    print(rt, b":");
 }
 
 // Of a segment of n bytes; in a script, what follows it may be fed too, zeros among it.
-fn run_case(kind: LineKind, line: &[u8], bytes: &[u8], n: usize, tally: Tally) -> Tally {
+fn run_case(
+    rt: &impl Print,
+    kind: LineKind,
+    line: &[u8],
+    bytes: &[u8],
+    n: usize,
+    tally: Tally,
+) -> Tally {
     match kind {
         LineKind::Script => {
-            run_script(field(line, 2), field(line, 3), bytes);
+            run_script(rt, field(line, 2), field(line, 3), bytes);
             tally
         }
-        LineKind::Made => run_segment(part(bytes, 0, n), true, tally),
-        _ => run_segment(part(bytes, 0, n), false, tally),
+        LineKind::Made => run_segment(rt, part(bytes, 0, n), true, tally),
+        _ => run_segment(rt, part(bytes, 0, n), false, tally),
     }
 }
 
-fn run_line(kind: LineKind, line: &[u8], k: u64, into: &mut [u8], tally: Tally) -> Tally {
-    print_name(kind, line, k);
-    let n = load(kind, line, into);
-    let after = run_case(kind, line, into, n, tally);
-    print(b"\n");
+fn run_line(
+    rt: &(impl Files + Print + Eprint),
+    kind: LineKind,
+    line: &[u8],
+    k: u64,
+    into: &mut [u8],
+    tally: Tally,
+) -> Tally {
+    print_name(rt, kind, line, k);
+    let n = load(rt, kind, line, into);
+    let after = run_case(rt, kind, line, into, n, tally);
+    print(rt, b"\n");
     after
 }
 
-pub fn run_lines(kind: LineKind, text: &[u8], into: &mut [u8], before: Tally) -> Tally {
+pub fn run_lines(
+    rt: &(impl Files + Print + Eprint),
+    kind: LineKind,
+    text: &[u8],
+    into: &mut [u8],
+    before: Tally,
+) -> Tally {
     let mut tally = before;
     let mut from = 0;
-    let mut k = 0;
+    let mut k: u64 = 0;
     while from < text.len() {
-        k = std::num::wrapping_add_u64(k, 1);
-        tally = run_line(kind, line_at(text, from), k, into, tally);
+        k = k.wrapping_add(1);
+        tally = run_line(rt, kind, line_at(text, from), k, into, tally);
         let next = next_line(text, from);
         if next <= from {
             return tally;

@@ -147,15 +147,16 @@ fn cut_alike(
     ends && works && tables
 }
 
-fn print_cut(alike: bool, at: u64) {
+fn print_cut(rt: &impl Print, alike: bool, at: u64) {
     if !alike {
-        print(b" differs when cut at ");
-        print_number(at);
+        print(rt, b" differs when cut at ");
+        print_number(rt, at);
     }
 }
 
 // The first k cuts, the first of them before the first byte.
 fn run_cuts(
+    rt: &impl Print,
     k: usize,
     segment: &[u8],
     end: End,
@@ -166,12 +167,12 @@ fn run_cuts(
 ) {
     for at in 0..k {
         let alike = cut_alike(segment, at, end, work, table, own_work, own_table);
-        print_cut(alike, at as u64);
+        print_cut(rt, alike, at as u64);
     }
 }
 
 // Every cut of a short segment, the last after its last byte; how many there are.
-fn check_cuts(segment: &[u8], end: End, work: &[u8], table: &[u64]) -> u64 {
+fn check_cuts(rt: &impl Print, segment: &[u8], end: End, work: &[u8], table: &[u64]) -> u64 {
     let n = segment.len();
     if SHORT < n {
         return 0;
@@ -179,6 +180,7 @@ fn check_cuts(segment: &[u8], end: End, work: &[u8], table: &[u64]) -> u64 {
     let mut own_work = [FILL_BYTE; 49152];
     let mut own_table = [FILL_NUMBER; 1536];
     run_cuts(
+        rt,
         n + 1,
         segment,
         end,
@@ -191,53 +193,67 @@ fn check_cuts(segment: &[u8], end: End, work: &[u8], table: &[u64]) -> u64 {
 }
 
 // What is said where a reading in pieces of one length is not as the reading of the whole.
-fn check_pieces(segment: &[u8], length: usize, end: End, work: &[u8], table: &[u64]) {
+fn check_pieces(
+    rt: &impl Print,
+    segment: &[u8],
+    length: usize,
+    end: End,
+    work: &[u8],
+    table: &[u64],
+) {
     if !pieces_alike(segment, length, end, work, table) {
-        print(b" differs in pieces of ");
-        print_number(length as u64);
+        print(rt, b" differs in pieces of ");
+        print_number(rt, length as u64);
     }
 }
 
 // A segment read again, by the whole reader and in pieces; the tally with the readings in pieces.
-fn check_alike(segment: &[u8], end: End, work: &[u8], table: &[u64], tally: Tally) -> Tally {
-    check_whole(segment, end, work, table);
-    check_pieces(segment, 1, end, work, table);
-    check_pieces(segment, 3, end, work, table);
-    check_pieces(segment, 5, end, work, table);
-    let cuts = check_cuts(segment, end, work, table);
-    let more = std::num::wrapping_add_u64(cuts, 3);
+fn check_alike(
+    rt: &impl Print,
+    segment: &[u8],
+    end: End,
+    work: &[u8],
+    table: &[u64],
+    tally: Tally,
+) -> Tally {
+    check_whole(rt, segment, end, work, table);
+    check_pieces(rt, segment, 1, end, work, table);
+    check_pieces(rt, segment, 3, end, work, table);
+    check_pieces(rt, segment, 5, end, work, table);
+    let cuts = check_cuts(rt, segment, end, work, table);
+    let more = cuts.wrapping_add(3);
     Tally {
-        segments: std::num::wrapping_add_u64(tally.segments, 1),
-        cuttings: std::num::wrapping_add_u64(tally.cuttings, more),
+        segments: tally.segments.wrapping_add(1),
+        cuttings: tally.cuttings.wrapping_add(more),
     }
 }
 
 // How many bytes feed took before the one that it refused.
-fn print_taken(end: End) {
+fn print_taken(rt: &impl Print, end: End) {
     let after = refused_after(end);
     if 0 < after {
-        print_number(after - 1);
-        print(b" read, ");
+        print_number(rt, after - 1);
+        print(rt, b" read, ");
     }
 }
 
 // A segment with its listing, and where it is asked for the byte at which its fault is met.
-pub fn run_segment(segment: &[u8], placed: bool, tally: Tally) -> Tally {
+pub fn run_segment(rt: &impl Print, segment: &[u8], placed: bool, tally: Tally) -> Tally {
     let mut work = [FILL_BYTE; 49152];
     let mut table = [FILL_NUMBER; 1536];
     let end = read_whole(segment, &mut work, &mut table);
-    print(b" ");
+    print(rt, b" ");
     if placed {
-        print_taken(end);
+        print_taken(rt, end);
     }
     let answer = end.answer;
-    print_listing(answer, &table);
-    check_alike(segment, end, &work, &table, tally)
+    print_listing(rt, answer, &table);
+    check_alike(rt, segment, end, &work, &table, tally)
 }
 
-pub fn print_tally(tally: Tally) {
-    print_number(tally.segments);
-    print(b" segments, ");
-    print_number(tally.cuttings);
-    print(b" cuttings\n");
+pub fn print_tally(rt: &impl Print, tally: Tally) {
+    print_number(rt, tally.segments);
+    print(rt, b" segments, ");
+    print_number(rt, tally.cuttings);
+    print(rt, b" cuttings\n");
 }

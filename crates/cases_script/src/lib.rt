@@ -30,7 +30,14 @@ use state::{FeedAnswer, State};
 const MOST_WORDS: usize = 16;
 
 // A piece fed k times.
-fn run_feed(k: u64, piece: &[u8], s: State, work: &mut [u8], table: &mut [u64]) -> State {
+fn run_feed(
+    rt: &impl Print,
+    k: u64,
+    piece: &[u8],
+    s: State,
+    work: &mut [u8],
+    table: &mut [u64],
+) -> State {
     let mut state = s;
     let mut answer = FeedAnswer::Read(0);
     for _ in 0..k {
@@ -38,14 +45,14 @@ fn run_feed(k: u64, piece: &[u8], s: State, work: &mut [u8], table: &mut [u64]) 
         state = fed.state;
         answer = fed.answer;
     }
-    print_fed(answer);
+    print_fed(rt, answer);
     state
 }
 
-fn run_finish(s: State, table: &[u64]) -> State {
+fn run_finish(rt: &impl Print, s: State, table: &[u64]) -> State {
     let finished = finish(s);
     let answer = finished.answer;
-    print_end(answer, table);
+    print_end(rt, answer, table);
     finished.state
 }
 
@@ -64,36 +71,50 @@ fn mark_of(word: &[u8]) -> Mark {
     }
 }
 
-fn run_mark(mark: Mark, s: State, table: &[u64]) -> State {
+fn run_mark(rt: &impl Print, mark: Mark, s: State, table: &[u64]) -> State {
     let resolved = resolve(s, table, mark);
-    print(b" page ");
-    print_number(resolved.page as u64);
+    print(rt, b" page ");
+    print_number(rt, resolved.page as u64);
     let answer = resolved.answer;
-    print_found(answer);
+    print_found(rt, answer);
     s
 }
 
-fn run_word(word: &[u8], bytes: &[u8], s: State, work: &mut [u8], table: &mut [u64]) -> State {
+fn run_word(
+    rt: &impl Print,
+    word: &[u8],
+    bytes: &[u8],
+    s: State,
+    work: &mut [u8],
+    table: &mut [u64],
+) -> State {
     let c = letter(word);
     if c == b'f' {
         let piece = part(bytes, nth(word, 0) as usize, nth(word, 1) as usize);
-        return run_feed(times(word), piece, s, work, table);
+        return run_feed(rt, times(word), piece, s, work, table);
     }
     if c == b'e' {
-        return run_finish(s, table);
+        return run_finish(rt, s, table);
     }
     if c == b'l' || c == b'd' {
-        print_found(lookup(s, table, request_of(word)));
+        print_found(rt, lookup(s, table, request_of(word)));
         return s;
     }
     if c == b'm' {
-        return run_mark(mark_of(word), s, table);
+        return run_mark(rt, mark_of(word), s, table);
     }
-    change_lent(word, work, table);
+    change_lent(rt, word, work, table);
     state_of(c, word, s)
 }
 
-fn run_words(words: &[u8], brand: [u8; 4], bytes: &[u8], work: &mut [u8], table: &mut [u64]) {
+fn run_words(
+    rt: &impl Print,
+    words: &[u8],
+    brand: [u8; 4],
+    bytes: &[u8],
+    work: &mut [u8],
+    table: &mut [u64],
+) {
     let mut s = start(brand);
     let mut lent = Lent {
         bytes: 49152,
@@ -103,6 +124,7 @@ fn run_words(words: &[u8], brand: [u8; 4], bytes: &[u8], work: &mut [u8], table:
         let next = word(words, k);
         lent = lent_after(next, lent);
         s = run_word(
+            rt,
             next,
             bytes,
             s,
@@ -113,8 +135,8 @@ fn run_words(words: &[u8], brand: [u8; 4], bytes: &[u8], work: &mut [u8], table:
 }
 
 // A script, with a table that has room for 4,097 leaves.
-pub fn run_script(words: &[u8], brand: &[u8], bytes: &[u8]) {
+pub fn run_script(rt: &impl Print, words: &[u8], brand: &[u8], bytes: &[u8]) {
     let mut work = [FILL_BYTE; 49152];
     let mut table = [FILL_NUMBER; 24582];
-    run_words(words, brand_of(brand), bytes, &mut work, &mut table);
+    run_words(rt, words, brand_of(brand), bytes, &mut work, &mut table);
 }

@@ -12,74 +12,74 @@ fn hex(d: u8) -> u8 {
     b'a' - 10 + d % 16
 }
 
-fn print_hex(b: u8) {
+fn print_hex(rt: &impl Print, b: u8) {
     let digits = [hex(b / 16), hex(b % 16)];
-    print(&digits);
+    print(rt, &digits);
 }
 
 // The place at which a run of changed bytes or numbers starts.
-fn print_place(i: usize, within: bool) {
+fn print_place(rt: &impl Print, i: usize, within: bool) {
     if !within {
-        print(b" ");
-        print_number(i as u64);
-        print(b":");
+        print(rt, b" ");
+        print_number(rt, i as u64);
+        print(rt, b":");
     }
 }
 
 // A byte, if it is not as it was lent; whether it is not.
-fn print_byte(b: u8, i: usize, within: bool) -> bool {
+fn print_byte(rt: &impl Print, b: u8, i: usize, within: bool) -> bool {
     if b == FILL_BYTE {
         return false;
     }
-    print_place(i, within);
-    print_hex(b);
+    print_place(rt, i, within);
+    print_hex(rt, b);
     true
 }
 
 // The bytes of a work area that are not as they were lent.
-fn print_changed(work: &[u8]) {
+fn print_changed(rt: &impl Print, work: &[u8]) {
     let mut within = false;
     let mut i = 0;
     while i < work.len() {
-        within = print_byte(work[i], i, within);
+        within = print_byte(rt, work[i], i, within);
         i += 1;
     }
 }
 
-fn print_one(n: u64, i: usize, within: bool) -> bool {
+fn print_one(rt: &impl Print, n: u64, i: usize, within: bool) -> bool {
     if n == FILL_NUMBER {
         return false;
     }
-    print_place(i, within);
-    print(b" ");
-    print_number(n);
+    print_place(rt, i, within);
+    print(rt, b" ");
+    print_number(rt, n);
     true
 }
 
 // The numbers of a leaf table that are not as they were lent.
-fn print_records(table: &[u64]) {
+fn print_records(rt: &impl Print, table: &[u64]) {
     let mut within = false;
     let mut i = 0;
     while i < table.len() {
-        within = print_one(table[i], i, within);
+        within = print_one(rt, table[i], i, within);
         i += 1;
     }
 }
 
-fn print_left(work: &[u8], table: &[u64]) {
-    print(b" work area");
-    print_changed(work);
-    print(b", table");
-    print_records(table);
-    print(b";");
+fn print_left(rt: &impl Print, work: &[u8], table: &[u64]) {
+    print(rt, b" work area");
+    print_changed(rt, work);
+    print(rt, b", table");
+    print_records(rt, table);
+    print(rt, b";");
 }
 
 // What changes or shows only what is lent.
-pub fn change_lent(word: &[u8], work: &mut [u8], table: &mut [u64]) {
+pub fn change_lent(rt: &impl Print, word: &[u8], work: &mut [u8], table: &mut [u64]) {
     match letter(word) {
         b'w' => put_bytes(word, work),
         b'n' => put_number(word, table),
-        b'p' => print_left(work, table),
+        b'p' => print_left(rt, work, table),
         _ => (),
     }
 }

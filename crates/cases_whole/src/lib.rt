@@ -29,12 +29,13 @@ fn whole_alike(segment: &[u8], end: End, work: &[u8], table: &[u64]) -> bool
     let own = whole_end(segment, &mut own_work, &mut own_table);
     let ends = same_end(own, end);
     let works = same_bytes(&own_work, work);
-    ends && works && same_numbers(&own_table, table, 1536)
+    let both = ends && works;
+    both && same_numbers(&own_table, table, 1536)
 }
 
 // What is said where the reading is not alike.
-pub fn check_whole(segment: &[u8], end: End, work: &[u8], table: &[u64]) {
+pub fn check_whole(rt: &impl Print, segment: &[u8], end: End, work: &[u8], table: &[u64]) {
     if !whole_alike(segment, end, work, table) {
-        print(b" differs from the whole reader");
+        print(rt, b" differs from the whole reader");
     }
 }

@@ -1,0 +1,11 @@
+-- `cases_data::buffers::fill_bytes` is safe and ends. The loop's invariant: the bytes stay as many; the measure is the bytes left.
+use Prim.Native.Nat.{◌-◌}
+use lib.ListN.{length}
+use mathlib.Core.Path.{◌≡◌}
+use Rattle.cases_data.proofs.buffers.fill_bytes.Given as goal
+
+abbrev pub invariant-loop-i : goal.invariant-loop-i
+invariant-loop-i l = length l.bytes ≡ length l.initial.bytes
+
+abbrev pub decreases-loop-i : goal.decreases-loop-i
+decreases-loop-i l = length l.initial.bytes - l.i
