@@ -20,9 +20,9 @@ holds for all. A part names functions of the crate, or a module and its theorems
 - a function: what it returns, or what its loop keeps, is refused in its own proof file, or `search` does not prove it there;
 - a theorem: an error at it in its module.
 
-An error that says only that something else was not admitted does not count, and neither does a call of what is not proved, nor a
-bound that fails: a read out of range or a sum that wraps is no answer.
-An edit that breaks the shape of the code or of a definition fails, whatever else its log shows.
+An error that says only that something else was not admitted does not count, and neither does one that says only that a name is gone (a
+goal's name has the test in it that leads there), a call of what is not proved, or a bound that fails: a read out of range or a sum that
+wraps is no answer. An edit after which code or definitions cannot be read fails, whatever else its log shows.
 """
 import pathlib
 import re
@@ -36,12 +36,12 @@ PARTS = ("src", "specs", "proofs")
 NAMES = re.compile(r"`[^`]+`(, `[^`]+`)*")
 ERROR = re.compile(r"^(?:\./)?(\S*?):\d+:\d+: error: (?:`([^`]+)`: )?(.*)$")
 FUNCTION = re.compile(r"^fn (\S+): (.*)$")
-FOLLOWS = re.compile(r"^`[^`]+` (was not admitted|cannot be unfolded because it was not admitted)")
+FOLLOWS = re.compile(r"^`[^`]+` (was not admitted|cannot be unfolded because it was not admitted)|^\d+ declarations? that depends? on ")
 UNPROVED = "`search` did not prove "
 # The goals that speak of a function's answer: what it returns, and what a loop keeps on the way to it.
 ANSWER = re.compile(r"returns(-.*)?|loop-.*|.*-(init|preserved)(-\d+)?")
-# What a log says where an operation or a branch is gone or new, or a name, a case or a type of a definition does not stand.
-BROKEN = ("is not in scope", "has no field", "has no `", "that can be named from here", "has no clause")
+# What a log says where a name, a case or a field that a proof or a definition names does not stand.
+GONE = ("is not in scope", "has no field", "has no `", "that can be named from here", "has no clause")
 # What `rt ci` says of an edit, and how that begins where the refusal says little.
 TRIED = re.compile(r"^rt: must-fail (\w+)/([\w.-]+)\.edit: (.*)$", re.M)
 REFUSED, LITTLE = "refused, as it must be", "refused, as it must be (only "
@@ -82,7 +82,7 @@ def wanted(cells):
 
 
 class Log:
-    """What the log of an edit says: errors as (file, declaration), functions by name, and signs of a broken shape. `folder` is the crate's."""
+    """What the log of an edit says: errors as (file, declaration), functions by name, and signs that it cannot be read. `folder` is the crate's."""
 
     def __init__(self, text, folder):
         self.errors, self.functions, self.broken, self.folder = set(), {}, [], folder
@@ -100,9 +100,10 @@ class Log:
     def read(self, file, declaration, said):
         if FOLLOWS.match(said):
             return
-        if declaration is None or not file.startswith("proofs/") or any(sign in said for sign in BROKEN):
+        if declaration is None or not file.startswith("proofs/"):
             self.broken.append(f"{file}: {said[:160]}")
-        self.errors.add((file, declaration))
+        elif not any(sign in said for sign in GONE):
+            self.errors.add((file, declaration))
 
     def function(self, name):
         """Whether a function's own proof is refused. `mod::name` says in which module of the crate it stands."""
@@ -117,8 +118,6 @@ class Log:
 
     def goal(self, file, declaration):
         """The goal that a declaration of a function's proof answers; none where it is a lemma of that proof."""
-        if declaration is None:
-            return None
         answers = re.search(rf"^(?:pub )?{re.escape(declaration)} : \S*\bgoal\.(\S+)", (self.folder / file).read_text(encoding="utf-8"), re.M)
         return answers and answers[1]
 
@@ -190,7 +189,7 @@ def ci_faults(said):
 def log_faults(log, lists):
     """What is wrong with an edit by the log of its check, given the names of each of its rows."""
     for sign in log.broken:
-        yield f"it breaks the shape: {sign}"
+        yield f"it cannot be read: {sign}"
     for part in lists:
         for name in log.missing(part):
             yield f"no refusal of its own in {name}"
