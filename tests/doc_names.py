@@ -36,6 +36,7 @@ def written(path):
     """What an .rt file declares: functions, types, constants, modules, fields and variants."""
     text = path.read_text(encoding="utf-8")
     found = re.findall(r"\b(?:fn|struct|enum|const|type|mod|pub use \w+::) ?(\w+)", text)
+    found += [name for names in re.findall(r"\bpub use \w+::\{([\w, ]+)\}", text) for name in names.split(", ")]
     fields = re.findall(r"^ +(?:pub )?(\w+): \S.*,$", text, re.M)
     return {*found, *fields, *re.findall(r"^ +([A-Z]\w*)(?:,$|\(| \{)", text, re.M)}
 

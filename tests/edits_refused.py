@@ -1,35 +1,50 @@
 #!/usr/bin/env python3
 """Each wrong answer listed in docs/EDITS.md is refused in the function or the theorem that its row names.
 
-It reads the tables of docs/EDITS.md that begin with a column "edit", and the logs that `rt ci` or `rt must-fail` left.
-Words given are crates: only the edits of these are looked at, and all others need no log.
+usage: tests/edits_refused.py [LOG]
+       tests/edits_refused.py --try CRATE..
+
+It reads the tables of docs/EDITS.md that begin with a column "edit". Each edit is listed, and no other; as many wrong answers as it tells of,
+of the functions that it says; and none changes a proof or a contract. `rt ci` tries the edits, but keeps no log of a try, and prints the first
+refusal alone. So two things are read:
+
+- Without --try, what `rt ci` printed, in LOG, else in target/log/ci: each edit is refused, for no limit of the prover, and not just because
+  what a proof names is gone.
+- With --try, each edit of these crates is made in a copy of the repository and checked there by `rt check`, whose whole log is read: each
+  function or theorem of its rows is refused by itself, as said below. A try takes some ten seconds where `rt check` has proved the crate
+  before on this machine, so this is no part of tests/run: it is for whoever changes an edit, a row or a proof.
 
 A row is `crate`: `edit`, `edit` | wrong answers | refused in. In the last column each edit has its part, parted by `;`, or one part
 holds for all. A part names functions of the crate, or a module and its theorems; each of them has to be refused by itself:
 
-- a function: what it returns, or what its loop keeps, is refused in its own proof file, or `search` does not close it there;
+- a function: what it returns, or what its loop keeps, is refused in its own proof file, or `search` does not prove it there;
 - a theorem: an error at it in its module.
 
-An error that says only that something else was not admitted does not count, and neither does a call of what is not proved, nor a
-bound that fails: a read out of range or a sum that wraps is no answer.
-An edit that breaks the shape of the code or of a definition fails, whatever else its log shows.
+An error that says only that something else was not admitted does not count, and neither does one that says only that a name is gone (a
+goal's name has the test in it that leads there), a call of what is not proved, or a bound that fails: a read out of range or a sum that
+wraps is no answer. An edit after which code or definitions cannot be read fails, whatever else its log shows.
 """
 import pathlib
 import re
+import shutil
+import subprocess
 import sys
+import tempfile
 
 ROOT = pathlib.Path(__file__).resolve().parent.parent
+PARTS = ("src", "specs", "proofs")
 NAMES = re.compile(r"`[^`]+`(, `[^`]+`)*")
-ERROR = re.compile(r"^(.*?):(\d+):(\d+): error: (?:`([^`]+)`: )?(.*)$")
+ERROR = re.compile(r"^(?:\./)?(\S*?):\d+:\d+: error: (?:`([^`]+)`: )?(.*)$")
 FUNCTION = re.compile(r"^fn (\S+): (.*)$")
-FOLLOWS = re.compile(r"^`[^`]+` (was not admitted|cannot be unfolded because it was not admitted)")
-UNCLOSED = "`search` does not close"
-# The needs that speak of a function's answer: what it returns, and what a loop keeps on the way to it.
-ANSWER = re.compile(r"(returns|loop\d*-(holds|again))(-\d+)?")
-# What a log says where an operation or a branch is gone or new, or a name, a case or a type of a definition does not stand.
-BROKEN = ("Need-", "is not in scope", "has no field", "that can be named from here", "has no clause")
-# A need that stands in line in the list of answers, and that search does not prove.
-UNFOUND = re.compile(r"`search`: no proof of `tie\.Need-([\w-]+)`")
+FOLLOWS = re.compile(r"^`[^`]+` (was not admitted|cannot be unfolded because it was not admitted)|^\d+ declarations? that depends? on ")
+UNPROVED = "`search` did not prove "
+# The goals that speak of a function's answer: what it returns, and what a loop keeps on the way to it.
+ANSWER = re.compile(r"returns(-.*)?|loop-.*|.*-(init|preserved)(-\d+)?")
+# What a log says where a name, a case or a field that a proof or a definition names does not stand.
+GONE = ("is not in scope", "has no field", "has no `", "that can be named from here", "has no clause")
+# What `rt ci` says of an edit, and how that begins where the refusal says little.
+TRIED = re.compile(r"^rt: must-fail (\w+)/([\w.-]+)\.edit: (.*)$", re.M)
+REFUSED, LITTLE = "refused, as it must be", "refused, as it must be (only "
 
 
 def names(text):
@@ -67,46 +82,28 @@ def wanted(cells):
 
 
 class Log:
-    """What the log of an edit says: errors as (file, declaration, need in line), functions by name, and signs of a broken shape."""
+    """What the log of an edit says: errors as (file, declaration), functions by name, and signs that it cannot be read. `folder` is the crate's."""
 
-    def __init__(self, crate, edit):
-        self.errors, self.functions, self.broken = set(), {}, []
-        here = f"target/must-fail/{crate}/{edit}/"
-        self.folder = ROOT / here
-        for line in (self.folder / ".log").read_text(encoding="utf-8", errors="replace").splitlines():
+    def __init__(self, text, folder):
+        self.errors, self.functions, self.broken, self.folder = set(), {}, [], folder
+        for line in text.splitlines():
             function, error = FUNCTION.match(line), ERROR.match(line)
             if function:
                 self.functions[function[1]] = function[2]
-                if function[2].startswith("no proof: ") and UNCLOSED not in function[2] and "; it calls `" not in function[2]:
+                if function[2].startswith("no proof: ") and UNPROVED not in function[2] and "it calls `" not in function[2]:
                     self.broken.append(line[:200])
-            if error:
-                self.read(error[1].rpartition(here)[2], (int(error[2]), int(error[3])), error[4], error[5])
+            elif error:
+                self.read(*error.groups())
+            elif re.search(r"\berror\[[\w-]+\]", line):
+                self.broken.append(line[:200])
 
-    def read(self, file, place, declaration, said):
+    def read(self, file, declaration, said):
         if FOLLOWS.match(said):
             return
-        unfound = UNFOUND.match(said)
-        if declaration is None or not file.startswith("proofs/") or not unfound and any(sign in said for sign in BROKEN):
+        if declaration is None or not file.startswith("proofs/"):
             self.broken.append(f"{file}: {said[:160]}")
-        in_line = declaration and declaration.endswith("-spec") and file.endswith("/Proof.antt")
-        self.errors.add((file, declaration, (unfound[1] if unfound else self.in_line(file, place, said)) if in_line else None))
-
-    def in_line(self, file, place, said):
-        """What the answer at a place of a list of answers is of. Of a search, its message tells; with a callee's lifetimes, or by
-        arithmetic, it is what a call or an operation asks; else it is what the function returns. A walk by hand has no such list."""
-        text = (self.folder / file).read_text(encoding="utf-8")
-        if ".spec" not in text:
-            return None
-        at = sum(len(line) + 1 for line in text.split("\n")[: place[0] - 1]) + place[1] - 1
-        depth, begin, answer = 0, 0, ""
-        for i in range(text.rindex(".spec"), len(text)):
-            depth += {"(": 1, ")": -1}.get(text[i], 0)
-            begin = i if text[i] == "(" and depth == 1 else begin
-            if text[i] == ")" and depth == 0 and begin <= at <= i:
-                answer = text[begin:i]
-        if re.match(r"\((λ [^.]*\. )?search\b", answer):
-            return "returns" if "Reads.Post" in said else "asked"
-        return "asked" if re.match(r"\(λ (c κs\.|c\. omega\b)", answer) else "returns"
+        elif not any(sign in said for sign in GONE):
+            self.errors.add((file, declaration))
 
     def function(self, name):
         """Whether a function's own proof is refused. `mod::name` says in which module of the crate it stands."""
@@ -115,17 +112,17 @@ class Log:
             return False
         said = self.functions[found[0]]
         *path, last = found[0].split("::")[1:]
-        own = {need or self.need(f, d) for f, d, need in self.errors if f.split("/")[1:-2] == path and last in f.split("/")[-2].split("+")}
-        own |= set(re.findall(r"`([^`]+)`", said.partition(UNCLOSED)[2]))
-        return said != "proved" and any(need is None or ANSWER.fullmatch(need) for need in own)
+        own = {self.goal(f, d) for f, d in self.errors if f.split("/")[1:-2] == path and last in f.split("/")[-2].split("+")}
+        own |= set(re.findall(r"`([^`]+)`", said.partition(UNPROVED)[2].partition(";")[0]))
+        return said != "proved" and any(goal is None or ANSWER.fullmatch(goal) for goal in own)
 
-    def need(self, file, declaration):
-        """The need that a declaration of a function's proof answers; none where it is a lemma of that proof."""
-        answers = re.search(rf"^{re.escape(declaration)} : \S*\bNeed-(\S+)", (self.folder / file).read_text(encoding="utf-8"), re.M)
+    def goal(self, file, declaration):
+        """The goal that a declaration of a function's proof answers; none where it is a lemma of that proof."""
+        answers = re.search(rf"^(?:pub )?{re.escape(declaration)} : \S*\bgoal\.(\S+)", (self.folder / file).read_text(encoding="utf-8"), re.M)
         return answers and answers[1]
 
     def theorem(self, module, name):
-        return any(f.endswith(f"/{module}.antt") and d == name for f, d, _ in self.errors)
+        return any(f.endswith(f"/{module}.antt") and d == name for f, d in self.errors)
 
     def missing(self, wanted_names):
         """The names that are not refused by themselves."""
@@ -147,34 +144,52 @@ def told(crate, edit):
     return [line[1:].strip() for line in text_of(crate, edit) if line.startswith("#")]
 
 
+def is_in_clause(before):
+    """Whether a place of a source, given by the text before it, stands in a clause: the last one that opens there is not closed yet."""
+    opens = [m.end() for m in re.finditer(r"\b(?:requires|ensures)\*?(?: \w+)? \{", before)]
+    depth = 1 if opens else 0
+    for sign in re.findall("[{}]", before[opens[-1] :] if opens else ""):
+        depth += 1 if sign == "{" else -1
+        if depth == 0:
+            break
+    return depth > 0
+
+
 def misplaced(crate, edit):
     """Lines of an edit that change a proof or a contract, and so no answer."""
-    text = ""
+    text, is_code = "", False
     for line in text_of(crate, edit):
         key, _, words = line.partition(": ")
         if key == "file":
-            text = (ROOT / "crates" / crate / words).read_text(encoding="utf-8")
-        before = text.partition(words)[0] if key == "old" else ""
-        if line.startswith("file: proofs/") or key in ("old", "new") and "⌜" in words or before.count("⌜") != before.count("⌝"):
+            text, is_code = (ROOT / "crates" / crate / words).read_text(encoding="utf-8"), words.startswith("src/")
+        before = text.partition(words)[0] if key == "old" and is_code else ""
+        if line.startswith("file: proofs/") or is_code and key in ("old", "new") and re.match(r"\s*(requires|ensures)\b", words) or is_in_clause(before):
             yield line
 
 
-def check(crate, edit, listed):
-    """What is wrong with an edit, given of each of its rows the function that it is of, and the names in it."""
-    comments, lists = told(crate, edit), [part for _, part in listed]
-    if len(comments) != len(lists):
-        yield f"it has {len(comments)} wrong answers, and docs/EDITS.md lists {len(lists)}"
+def listed_faults(crate, edit, listed):
+    """What is wrong with an edit beside its rows: of each the function that it is of, and the names in it."""
+    comments = told(crate, edit)
+    if len(comments) != len(listed):
+        yield f"it has {len(comments)} wrong answers, and docs/EDITS.md lists {len(listed)}"
     if len(comments) > 1 and sorted(c.partition(":")[0] for c in comments) != sorted(f for function, _ in listed for f in function):
         yield "its wrong answers are not of the functions that docs/EDITS.md lists"
     for line in misplaced(crate, edit):
         yield f"it changes a proof or a contract: {line}"
-    out = ROOT / "target/must-fail" / crate / f"{edit}.res"
-    if not out.exists() or out.read_text().strip() != "refused":
-        yield "there is no log of its refusal: run `rt ci` or `rt must-fail`"
-        return
-    log = Log(crate, edit)
+
+
+def ci_faults(said):
+    """What is wrong with an edit by what `rt ci` said of it."""
+    if said is None:
+        yield "the log of `rt ci` does not tell of it"
+    elif not said.startswith(REFUSED) or said.startswith(LITTLE):
+        yield said
+
+
+def log_faults(log, lists):
+    """What is wrong with an edit by the log of its check, given the names of each of its rows."""
     for sign in log.broken:
-        yield f"it breaks the shape: {sign}"
+        yield f"it cannot be read: {sign}"
     for part in lists:
         for name in log.missing(part):
             yield f"no refusal of its own in {name}"
@@ -182,8 +197,58 @@ def check(crate, edit, listed):
         yield f"two of its wrong answers are refused in {name}, and its log does not tell them apart"
 
 
-def main(crates):
-    faults, listed = [], {}
+def copied(to):
+    """Copies the sources of all crates, without what earlier runs kept."""
+    shutil.copy(ROOT / "crates.txt", to)
+    (to / ".git").mkdir()
+    for crate in (ROOT / "crates").iterdir():
+        for part in PARTS:
+            if (crate / part).is_dir():
+                shutil.copytree(crate / part, to / "crates" / crate.name / part)
+
+
+def edited(crate, edit, folder):
+    """Makes an edit in a copy of its crate, and returns the files as they were."""
+    were, file, old = {}, None, None
+    for line in text_of(crate, edit):
+        key, colon, words = line.partition(":")
+        words = words[1:] if words.startswith(" ") else words
+        if key == "file" and colon:
+            file = folder / words.strip()
+            were.setdefault(file, file.read_text(encoding="utf-8"))
+        elif key == "old" and colon:
+            old = words
+        elif key == "new" and colon:
+            text = file.read_text(encoding="utf-8")
+            if text.count(old) != 1:
+                raise ValueError(f"this stands {text.count(old)} times, and not once: {old}")
+            file.write_text(text.replace(old, words), encoding="utf-8")
+    return were
+
+
+def tried(crate, edit, lists, top):
+    """What is wrong with an edit by its own check, in a copy of the repository."""
+    folder = top / "crates" / crate
+    try:
+        were = edited(crate, edit, folder)
+    except ValueError as fault:
+        shutil.rmtree(folder)
+        for part in PARTS:
+            if (ROOT / "crates" / crate / part).is_dir():
+                shutil.copytree(ROOT / "crates" / crate / part, folder / part)
+        return [str(fault)]
+    ran = subprocess.run(["rt", "check"], cwd=folder, stdin=subprocess.DEVNULL, stdout=subprocess.PIPE, stderr=subprocess.STDOUT, text=True, errors="replace")
+    logs = ROOT / "target/log/edits" / crate
+    logs.mkdir(parents=True, exist_ok=True)
+    (logs / f"{edit}.log").write_text(ran.stdout, encoding="utf-8")
+    faults = ["it is not refused"] if ran.returncode == 0 else [*log_faults(Log(ran.stdout, folder), lists)]
+    for file, text in were.items():
+        file.write_text(text, encoding="utf-8")
+    return faults
+
+
+def main(words):
+    is_try, faults, listed = words[:1] == ["--try"], [], {}
     for cells in rows():
         try:
             for crate, edit, function, part in wanted(cells):
@@ -193,14 +258,29 @@ def main(crates):
     there = {(f.parts[-3], f.stem) for f in (ROOT / "crates").glob("*/must-fail/*.edit")}
     faults += [f"{crate}/{edit}: docs/EDITS.md does not list it" for crate, edit in sorted(there - set(listed))]
     faults += [f"{crate}/{edit}: docs/EDITS.md lists it, and there is no such edit" for crate, edit in sorted(set(listed) - there)]
-    looked = [key for key in sorted(there & set(listed)) if not crates or key[0] in crates]
-    for crate, edit in looked:
-        faults += [f"{crate}/{edit}: {fault}" for fault in check(crate, edit, listed[crate, edit])]
+    looked = [key for key in sorted(there & set(listed)) if not is_try or key[0] in words[1:]]
+    for key in looked:
+        faults += [f"{'/'.join(key)}: {fault}" for fault in listed_faults(*key, listed[key])]
+    if is_try:
+        with tempfile.TemporaryDirectory(prefix="edits-") as room:
+            copied(pathlib.Path(room))
+            for key in looked:
+                found = tried(*key, [part for _, part in listed[key]], pathlib.Path(room))
+                faults += [f"{'/'.join(key)}: {fault}" for fault in found]
+                print(f"edits_refused: {'/'.join(key)}: {'as listed' if not found else 'NOT as listed'}", flush=True)
+    else:
+        log = pathlib.Path(words[0]) if words else ROOT / "target/log/ci"
+        if not log.exists():
+            print(f"edits_refused: {log} is missing: it is what `rt ci` printed, and tests/run writes it", file=sys.stderr)
+            return 2
+        said = {(crate, edit): text for crate, edit, text in TRIED.findall(log.read_text(encoding="utf-8", errors="replace"))}
+        for key in looked:
+            faults += [f"{'/'.join(key)}: {fault}" for fault in ci_faults(said.get(key))]
     for fault in faults:
         print(f"edits_refused: {fault}")
     if not faults:
         count = sum(len(listed[key]) for key in looked)
-        print(f"edits_refused: {len(looked)} edits, {count} wrong answers, each refused where docs/EDITS.md says")
+        print(f"edits_refused: {len(looked)} edits, {count} wrong answers, each listed and refused{' where docs/EDITS.md says' if is_try else ''}")
     return 1 if faults else 0
 
 

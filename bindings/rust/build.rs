@@ -1,4 +1,4 @@
-//! Links libmazurlot.a. It is looked for in the folder that MAZURLOT_LIB_DIR names, else where `rt staticlib` writes it.
+//! Links libmazurlot.a. It is looked for in the folder that MAZURLOT_LIB_DIR names, else where ./archive of this repository writes it.
 
 use std::env;
 use std::path::{Path, PathBuf};
@@ -16,7 +16,7 @@ fn main() {
     // The linker is run in another folder than this program, so it is given the whole path.
     let Ok(folder) = folder.canonicalize().and_then(|folder| archive.metadata().map(|_| folder)) else {
         println!(
-            "cargo::error={} is missing: make it with `rt staticlib mazurlot`, or name its folder in MAZURLOT_LIB_DIR",
+            "cargo::error={} is missing: make it with ./archive at the top of the repository, or name its folder in MAZURLOT_LIB_DIR",
             archive.display()
         );
         return;

@@ -23,8 +23,7 @@ mod answers;
 mod states;
 
 // A reading of a segment that has to list this brand, its four bytes as one number.
-#[unsafe(no_mangle)]
-pub extern "C" fn mazurlot_start(brand: u32, state: &mut [u64]) -> u64
+pub fn mazurlot_start(brand: u32, state: &mut [u64]) -> u64
     ensures { call result [] state.new [] [] ≡ start_call brand state.old }
 {
     if state.len() != STATE_NUMBERS {
@@ -35,8 +34,7 @@ pub extern "C" fn mazurlot_start(brand: u32, state: &mut [u64]) -> u64
 }
 
 // The next part of a segment.
-#[unsafe(no_mangle)]
-pub extern "C" fn mazurlot_feed(
+pub fn mazurlot_feed(
     piece: &[u8],
     state: &mut [u64],
     work: &mut [u8],
@@ -60,8 +58,7 @@ pub extern "C" fn mazurlot_feed(
 }
 
 // The end of a segment.
-#[unsafe(no_mangle)]
-pub extern "C" fn mazurlot_finish(state: &mut [u64], answer: &mut [u64]) -> u64
+pub fn mazurlot_finish(state: &mut [u64], answer: &mut [u64]) -> u64
     ensures { call result answer.new state.new [] [] ≡ finish_call state.old answer.old }
 {
     if answer.len() < ONE_VALUE {
@@ -78,8 +75,7 @@ pub extern "C" fn mazurlot_finish(state: &mut [u64], answer: &mut [u64]) -> u64
 }
 
 // A whole segment. Where there is no place for the state or the answer, it is not read.
-#[unsafe(no_mangle)]
-pub extern "C" fn mazurlot_whole(
+pub fn mazurlot_whole(
     brand: u32,
     segment: &[u8],
     state: &mut [u64],
@@ -112,21 +108,14 @@ fn look_up(request: Request, state: &[u64], table: &[u64], answer: &mut [u64]) -
 }
 
 // The same of a time in ticks.
-#[unsafe(no_mangle)]
-pub extern "C" fn mazurlot_lookup_ticks(
-    ticks: u64,
-    state: &[u64],
-    table: &[u64],
-    answer: &mut [u64],
-) -> u64
+pub fn mazurlot_lookup_ticks(ticks: u64, state: &[u64], table: &[u64], answer: &mut [u64]) -> u64
     ensures { call result answer.new [] [] [] ≡ lookup_call (request.Ticks ticks) state.now table.now answer.old }
 {
     look_up(Request::Ticks(ticks), state, table, answer)
 }
 
 // The same of a time in seconds.
-#[unsafe(no_mangle)]
-pub extern "C" fn mazurlot_lookup_seconds(
+pub fn mazurlot_lookup_seconds(
     seconds: f64,
     state: &[u64],
     table: &[u64],
@@ -138,8 +127,7 @@ pub extern "C" fn mazurlot_lookup_seconds(
 }
 
 // The leaf that covers the seconds of a mark, and the mark's page.
-#[unsafe(no_mangle)]
-pub extern "C" fn mazurlot_resolve(
+pub fn mazurlot_resolve(
     page: u32,
     seconds: f64,
     state: &[u64],
