@@ -69,7 +69,7 @@ module _ {A R Q X : Type 0} (w : Walk A R) (result : A → Q) (lacks : A → Lis
       ∙ then_assoc (first_box xs) _ _
       ∙ then_cong (first_box xs) _ _ (λ b e. then_assoc (cut_boxes j (drop b.size xs)) _ _)
 
--- A list `l` with bodies `bodyD`, beside a walk `w`: a body gives what the walk's item says and leaves what flows; a box before the end
+-- A list `l` with bodies `body_d`, beside a walk `w`: a body gives what the walk's item says and leaves what flows; a box before the end
 -- leads on to what is next known, and the last one to the result, with the faults `last`, which hold those of the walk and what is lacking.
 module _ {A B R Q X : Type 0} (l : Boxes A B R Q Flow Left) (body_d : A → Header → Flow → ℕ → List ℕ → Res R Flow Left)
     (w : Walk A R) (result : A → Q) (lacks : A → List Refusal) (end : ℕ) (f : Flow)

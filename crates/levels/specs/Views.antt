@@ -20,6 +20,6 @@ abbrev pub open_of : Still → Option Levels
 open_of (still.Open ls) = some ls
 open_of still.Closed = none
 
--- the clause of `stillOpen` for four open indexes
+-- the clause of `still_open` for four open indexes
 unfoldable pub still_four : Level → Level → Level → Level → Option Levels
 still_four a b c d = pick (defs.passed_all d) (defs.still_three a b c) (some (levels.Four a b c d))

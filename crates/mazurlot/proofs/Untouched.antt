@@ -1,5 +1,5 @@
 -- A call that gives back 2 leaves all that it was lent as it was: by the definitions of the calls, and since a state inside the ranges is
--- never refused with 2 (`feed-not-two`, `finish-not-two`).
+-- never refused with 2 (`feed_not_two`, `finish_not_two`).
 use Prim.Native.Nat.{ℕ, ◌<◌, ◌≤◌}
 use mathlib.Core.Path.{◌≡◌, refl, sym, ap, ◌∙◌}
 use mathlib.Core.List.{List, [], ◌∷◌}

@@ -1,4 +1,4 @@
--- Numbers are read back as a state exactly where they are the numbers of one inside the ranges, and then as that one (`unpacks-exactly`).
+-- Numbers are read back as a state exactly where they are the numbers of one inside the ranges, and then as that one (`unpacks_exactly`).
 use Prim.Native.Nat.{ℕ}
 use mathlib.Core.Path.{◌≡◌, refl, sym, ap, ◌∙◌}
 use mathlib.Core.List.{List, [], ◌∷◌}

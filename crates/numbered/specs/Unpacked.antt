@@ -1,4 +1,4 @@
--- Numbers read back as a state: they are those of a state inside the ranges, or none. `Unpacks`, theorem `unpacks-exactly`, says it
+-- Numbers read back as a state: they are those of a state inside the ranges, or none. `Unpacks`, theorem `unpacks_exactly`, says it
 -- without the way it is found.
 use Rattle.std.specs.Prelude.{ℕ, List, [], ◌∷◌, Bool, true, false, ◌&&◌, eqb, length}
 use Rattle.std.proofs.Math.Option.{Option, some, none}

@@ -1,4 +1,4 @@
--- Blocks put one behind the other are one block (`put_then`); numbers put into zeros from their front are padded (`put-into-zeros`).
+-- Blocks put one behind the other are one block (`put_then`); numbers put into zeros from their front are padded (`put_into_zeros`).
 use Prim.Native.Nat.{ℕ, zero, suc, ◌+◌, ◌-◌, ◌≤◌, ◌<◌}
 use mathlib.Core.Path.{◌≡◌, refl, sym, ap, ◌∙◌}
 use mathlib.Core.List.{List, ◌++◌, append-nil}

@@ -1,13 +1,13 @@
 -- Which lists of bytes are segments, and with which leaves: rules 1 to 7 over the whole list.
 --
---   rule 1   `topIndex`, `firstIndex`; the gap: `boxesOfGap`
+--   rule 1   `top_index`, `first_index`; the gap: `boxes_of_gap`
 --   rule 2   `material`
---   rule 3   `tile`, `entryParts`; the same rule at every level: `underIndex`; at most 4 levels: `levels`, in `segmentParts`
---   rule 4   `innerIndex`, `suitsEntry`
---   rule 5   specs `Leaves`, `boxesOfLeaf`
---   rule 6   specs `Leaves`, `trafTimes`, `leafTimes`; through the segment: `neverFall`, in `segmentParts`
---   rule 7   the order of `leavesIn`; when each starts: `segmentParts`, `tile`; what it covers: `covers`
---   limits   of bytes: `limit`; of times: `timeLimit`; of levels: `levels`; all in `segmentParts`
+--   rule 3   `tile`, `entry_parts`; the same rule at every level: `under_index`; at most 4 levels: `levels`, in `segment_parts`
+--   rule 4   `inner_index`, `suits_entry`
+--   rule 5   specs `Leaves`, `boxes_of_leaf`
+--   rule 6   specs `Leaves`, `traf_times`, `leaf_times`; through the segment: `never_fall`, in `segment_parts`
+--   rule 7   the order of `leaves_in`; when each starts: `segment_parts`, `tile`; what it covers: `covers`
+--   limits   of bytes: `limit`; of times: `time_limit`; of levels: `levels`; all in `segment_parts`
 use Rattle.std.specs.Prelude.{ℕ, zero, suc, ◌+◌, ◌-◌, List, [], ◌∷◌, ◌++◌, Bool, false, ◌&&◌, eqb, ltb, leb, length, take, drop}
 use Rattle.std.proofs.Math.Option.{Option, some, none}
 use Rattle.basics.specs.Choose.{pick, and_then}
@@ -137,7 +137,7 @@ leaves_in (index_part position size ∷ ps) = leaves_in ps
 
 -- The parts of a segment of a brand. Rule 3: at most 4 levels with the top one. Rule 6: decode times of the reference track never fall
 -- through the segment. Rule 7: the first leaf starts at the top index's earliest presentation time. A segment has at most `limit` bytes,
--- and its start plus durations is below `timeLimit`.
+-- and its start plus durations is below `time_limit`.
 unfoldable pub segment_parts : ℕ → List ℕ → Option (List Part)
 segment_parts brand xs =
     except (ltb limit (length xs))

@@ -1,5 +1,5 @@
 -- Rows 6, 10, 11 and 12 in an index box, at the end of each of its numbers: which number is given and with which place, and what goes on
--- where none is. By the tests of `fieldEnds` and `entryEnds`, case by case.
+-- where none is. By the tests of `field_ends` and `entry_ends`, case by case.
 use Prim.Native.Nat.{ℕ, zero, suc, ◌+◌, ◌*◌, ◌%◌, ◌≤◌, ◌<◌}
 use mathlib.Core.Path.{◌≡◌, refl}
 use mathlib.Core.Bool.{Bool, true, false, not, ◌&&◌, ◌||◌, or-true, and-false}

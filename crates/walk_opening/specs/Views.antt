@@ -29,7 +29,7 @@ OpeningFixed s (opens.Bad x) = x.leaves ≡ 0
 OpeningFixed s opens.Ended = Unit {0}
 
 -- The boxes up to the top index, from the first byte lent on, are read as the descent reads them where the bytes stand; `branded` says
--- that the `styp` stands before them. From the segment's first byte on this is `openingD`. Of a top index that was read row 14 is not shown.
+-- that the `styp` stands before them. From the segment's first byte on this is `opening_d`. Of a top index that was read row 14 is not shown.
 pub record OpeningWalked (brand : ℕ) (branded : Bool) (base : ℕ) (s work work' : List ℕ) (r : OpeningAnswer) : Type 0 where
   pub right : (f : Flow) → f.now ≡ 0 → f.work ≡ work →
       opened_d base s (with_work f work') r ≡ boxes_d (opening brand) (λ b. opening_body_d brand) (suc (length s)) branded f base s

@@ -1,4 +1,4 @@
--- `doubles::double_of` meets its contract, by that of `not_a_number`, and by the laws `above-infinity` and `up_to_infinity`.
+-- `doubles::double_of` meets its contract, by that of `not_a_number`, and by the laws `above_infinity` and `up_to_infinity`.
 use mathlib.Core.Path.{sym, ◌∙◌}
 use Rattle.doubles.proofs.Patterns.{above_infinity, up_to_infinity}
 use Rattle.doubles.proofs.double_of.Goals as goal

@@ -1,4 +1,4 @@
--- `feed::feed_bytes` meets its contract, by that of `advance`, and by the law `fed-end`. The loop's invariant: what the rest of the piece comes
+-- `feed::feed_bytes` meets its contract, by that of `advance`, and by the law `fed_end`. The loop's invariant: what the rest of the piece comes
 -- to from here is what the whole piece comes to from the start.
 use Prim.Native.Nat.{◌-◌, ◌≤◌}
 use mathlib.Core.Path.{◌≡◌, refl, sym, ◌∙◌}
@@ -10,7 +10,8 @@ pub loop-i-init : goal.loop-i-init
 loop-i-init c = (omega arith, refl, refl, c.requires.1, refl)
 
 pub advance-m-requires : goal.advance-m-requires
-advance-m-requires c = let asked = c.requires in
+advance-m-requires c =
+    let asked = c.requires in
     (omega (arith, c.loop-i.invariant.1, asked.0), c.loop-i.invariant.3, c.loop-i-test.true)
 
 pub loop-i-smaller : goal.loop-i-smaller

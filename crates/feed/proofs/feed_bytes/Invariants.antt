@@ -1,4 +1,4 @@
--- `feed::feed_bytes` meets its contract, by that of `advance`, and by the law `fed-end`. The loop's invariant: what the rest of the piece comes
+-- `feed::feed_bytes` meets its contract, by that of `advance`, and by the law `fed_end`. The loop's invariant: what the rest of the piece comes
 -- to from here is what the whole piece comes to from the start.
 use Prim.Native.Nat.{◌-◌, ◌≤◌}
 use mathlib.Core.Path.{◌≡◌, refl, sym, ◌∙◌}

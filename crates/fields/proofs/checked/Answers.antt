@@ -1,4 +1,4 @@
--- `fields::checked` meets its contract, by that of `stop_at`, and by the definition of `checkedAt`.
+-- `fields::checked` meets its contract, by that of `stop_at`, and by the definition of `checked_at`.
 use Prim.Native.Nat.{◌+◌, ◌<◌, ◌≤◌}
 use native.Mathlib.Omega.{arith}
 use borrow.Author.Tests.{lt-ltb, le-ltb}
@@ -12,12 +12,14 @@ returns-then-size-head c = rw (c.stop_at.ensures, lt-ltb _ _ c.if-size-head.true
 
 pub returns-then-end-at : goal.returns-then-end-at
 unfolding checked_at pick
-returns-then-end-at c = let a = c.args in
+returns-then-end-at c =
+    let a = c.args in
     let h : a.end < a.at + a.size = omega arith in
     rw (c.stop_at-then-end-at.ensures, le-ltb _ _ c.if-size-head.false, lt-ltb _ _ h)
 
 pub returns : goal.returns
 unfolding checked_at pick
-returns c = let a = c.args in
+returns c =
+    let a = c.args in
     let h : a.at + a.size ≤ a.end = omega arith in
     rw (le-ltb _ _ c.if-size-head.false, le-ltb _ _ h)

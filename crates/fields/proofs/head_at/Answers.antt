@@ -1,4 +1,4 @@
--- `fields::head_at` meets its contract, by those of `stop_at`, `word_at`, `large_head` and `checked`, and by the definition of `headAt`.
+-- `fields::head_at` meets its contract, by those of `stop_at`, `word_at`, `large_head` and `checked`, and by the definition of `head_at`.
 use mathlib.Core.Path.{◌≡◌, sym, ◌∙◌}
 use borrow.Author.Tests.{le-leb, lt-leb, lt-ltb, le-ltb, eq-eqb, ne_eqb}
 use Rattle.basics.specs.Choose.{pick}
@@ -19,7 +19,8 @@ returns-then-bytes-at-2 c = rw (lt-leb _ _ c.if-bytes-at.false, le-ltb _ _ c.if-
 
 pub returns-then-size-eq1 : goal.returns-then-size-eq1
 unfolding head_at pick
-returns-then-size-eq1 c = let a = c.args in
+returns-then-size-eq1 c =
+    let a = c.args in
     let is : number_at 4 a.bytes.now a.at ≡ 1 = sym c.word_at-size.ensures.0 ∙ c.if-size-eq1.true in
     rw (lt-leb _ _ c.if-bytes-at.false, le-ltb _ _ c.if-end-at.false, le-ltb _ _ c.if-bytes-at-2.false, eq-eqb _ _ is, ← c.word_at-kind.ensures.0) c.large_head.ensures
 

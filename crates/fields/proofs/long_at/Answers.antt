@@ -1,4 +1,4 @@
--- `fields::long_at` meets its contract, by that of `word_at`, and by the law `long-law`.
+-- `fields::long_at` meets its contract, by that of `word_at`, and by the law `long_law`.
 use Rattle.fields.proofs.Width.{long_law}
 use Rattle.fields.proofs.long_at.Goals as goal
 

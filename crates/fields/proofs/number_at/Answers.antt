@@ -1,4 +1,4 @@
--- `fields::number_at` meets its contract, by those of `wide`, `pair_at`, `word_at` and `long_at`, and by the laws `width_one` and `last-width`.
+-- `fields::number_at` meets its contract, by those of `wide`, `pair_at`, `word_at` and `long_at`, and by the laws `width_one` and `last_width`.
 use Prim.Native.Nat.{◌+◌, ◌<◌, ◌≤◌}
 use mathlib.Core.Path.{sym, ◌∙◌}
 use lib.ListN.{length}
@@ -7,7 +7,8 @@ use Rattle.fields.proofs.Width.{width_one, last_width}
 use Rattle.fields.proofs.number_at.Goals as goal
 
 pub returns-then-width-eq1 : goal.returns-then-width-eq1
-returns-then-width-eq1 c = let a = c.args in
+returns-then-width-eq1 c =
+    let a = c.args in
     let there : a.at < length a.bytes.now = omega arith in
     rw c.if-width-eq1.true (c.wide.ensures.0 ∙ sym (width_one a.bytes.now a.at there), omega arith)
 

@@ -1,4 +1,4 @@
--- `finish::finish` meets its contract, by those of `in_range`, `finish_state` and `declined`, by the laws `pick_yes` and `pick_no`, and by the definition of `finishOf`.
+-- `finish::finish` meets its contract, by those of `in_range`, `finish_state` and `declined`, by the laws `pick_yes` and `pick_no`, and by the definition of `finish_of`.
 use mathlib.Core.Path.{sym, ◌∙◌}
 use Rattle.state.specs.Calls.{finish_of}
 use Rattle.basics.proofs.Picks.{pick_yes, pick_no}

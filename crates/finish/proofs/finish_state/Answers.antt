@@ -1,4 +1,4 @@
--- `finish::finish_state` meets its contract, by those of `cut_short` and `declined`, and by the definition of `finishState`.
+-- `finish::finish_state` meets its contract, by those of `cut_short` and `declined`, and by the definition of `finish_state`.
 use Rattle.state.specs.Calls.{finish_state}
 use borrow.Author.Rules.{rules}
 use Rattle.finish.proofs.finish_state.Goals as goal

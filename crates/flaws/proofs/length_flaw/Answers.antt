@@ -1,4 +1,4 @@
--- `flaws::length_flaw` meets its contract, by that of `body_length`, and by the law `length-tests`.
+-- `flaws::length_flaw` meets its contract, by that of `body_length`, and by the law `length_tests`.
 use native.Mathlib.Omega.{arith}
 use borrow.Author.Tests.{eq-eqb, ne_eqb, lt-ltb, le-ltb}
 use Rattle.basics.specs.Choose.{pick}

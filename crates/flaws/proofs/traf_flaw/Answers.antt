@@ -1,4 +1,4 @@
--- `flaws::traf_flaw` meets its contract, by the law `mark-flaws`, and by its tests, which decide those of the law.
+-- `flaws::traf_flaw` meets its contract, by the law `mark_flaws`, and by its tests, which decide those of the law.
 use native.Mathlib.Omega.{arith}
 use borrow.Author.Tests.{eq-eqb, ne_eqb, lt-ltb, le-ltb}
 use Rattle.basics.specs.Choose.{pick}
@@ -12,7 +12,8 @@ returns-then-body-lt8 c = rw mark_flaws (simp (eq-eqb _ _ c.if-h-eq-TFHD.true, l
 
 pub returns-then-mark-eq0 : goal.returns-then-mark-eq0
 unfolding pick
-returns-then-mark-eq0 c = let kind = c.args.h.kind in
+returns-then-mark-eq0 c =
+    let kind = c.args.h.kind in
     rw mark_flaws
     (simp (
       eq-eqb _ _ c.if-h-eq-TFHD.true,
@@ -32,7 +33,8 @@ returns-then-body-lt8-2 c = rw mark_flaws (simp (ne_eqb _ _ c.if-h-eq-TFHD.false
 
 pub returns-then-mark-gt1 : goal.returns-then-mark-gt1
 unfolding pick
-returns-then-mark-gt1 c = let kind = c.args.h.kind in
+returns-then-mark-gt1 c =
+    let kind = c.args.h.kind in
     rw mark_flaws
     (simp (
       ne_eqb _ _ c.if-h-eq-TFHD.false,

@@ -1,4 +1,4 @@
--- `header::first_byte` meets its contract, by the definitions of `stepHead`, `unless`, `shows` and `lowest`.
+-- `header::first_byte` meets its contract, by the definitions of `step_head`, `unless`, `shows` and `lowest`.
 use borrow.Author.Tests.{lt-ltb, le-ltb}
 use Rattle.machine.specs.Faults.{shows, lowest, unless}
 use Rattle.machine.specs.Heads.{step_head}

@@ -1,5 +1,5 @@
--- `header::head_byte` meets its contract, by those of `first_byte`, `size_byte`, `kind_byte` and `large_byte`, by the law `spelled-small`, and by the
--- definition of `headBounds`.
+-- `header::head_byte` meets its contract, by those of `first_byte`, `size_byte`, `kind_byte` and `large_byte`, by the law `spelled_small`, and by the
+-- definition of `head_bounds`.
 use mathlib.Core.Path.{subst}
 use native.Mathlib.Omega.{arith}
 use Rattle.machine.specs.declared.Head.{Head}
@@ -9,17 +9,20 @@ use Rattle.header.proofs.head_byte.Goals as goal
 
 pub size_byte-requires : goal.size_byte-requires
 unfolding head_bounds
-size_byte-requires c = let w = subst (λ (q : Head). Within (head_bounds q)) c.in-Size.is c.requires.0 in
+size_byte-requires c =
+    let w = subst (λ (q : Head). Within (head_bounds q)) c.in-Size.is c.requires.0 in
     spelled_small 3 _ _ (omega arith) w.1
 
 pub kind_byte-requires : goal.kind_byte-requires
 unfolding head_bounds
-kind_byte-requires c = let w = subst (λ (q : Head). Within (head_bounds q)) c.in-Kind.is c.requires.0 in
+kind_byte-requires c =
+    let w = subst (λ (q : Head). Within (head_bounds q)) c.in-Kind.is c.requires.0 in
     (w.0, spelled_small 3 _ _ (omega arith) w.1)
 
 pub large_byte-requires : goal.large_byte-requires
 unfolding head_bounds
-large_byte-requires c = let w = subst (λ (q : Head). Within (head_bounds q)) c.in-Large.is c.requires.0 in
+large_byte-requires c =
+    let w = subst (λ (q : Head). Within (head_bounds q)) c.in-Large.is c.requires.0 in
     spelled_small 7 _ _ (omega arith) w.1
 
 pub returns-in-First : goal.returns-in-First

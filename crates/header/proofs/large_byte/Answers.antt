@@ -1,4 +1,4 @@
--- `header::large_byte` meets its contract, by that of `spelled`, by the law `one_fewer`, and by the definition of `stepHead`.
+-- `header::large_byte` meets its contract, by that of `spelled`, by the law `one_fewer`, and by the definition of `step_head`.
 use Prim.Native.Nat.{◌+◌, ◌*◌}
 use mathlib.Core.Path.{refl}
 use Rattle.machine.specs.Run.{go}
@@ -14,7 +14,8 @@ returns-then-more-eq0 c = λ f. rw (c.spelled-v.ensures, c.if-more-eq0.true)
 
 pub returns : goal.returns
 unfolding step_head
-returns c = let a = c.args in
+returns c =
+    let a = c.args in
     λ f. rw c.spelled-v.ensures
     (one_fewer (λ m. step_head left a.end (at.Large a.pos a.kind m a.acc) f a.n a.b) (λ m. go (at.Large a.pos a.kind m (a.acc * 256 + a.b)) f)
     (λ m. refl) a.more c.if-more-eq0.false)

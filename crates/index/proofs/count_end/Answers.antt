@@ -1,5 +1,5 @@
--- `index::count_end` meets its contract, by those of `no_count` and `unless_shown`, by the law `first-lower`, and by the definitions of `fieldEnds` and
--- `countFaults`.
+-- `index::count_end` meets its contract, by those of `no_count` and `unless_shown`, by the law `first_lower`, and by the definitions of `field_ends` and
+-- `count_faults`.
 use native.Mathlib.Omega.{arith}
 use Rattle.index.proofs.Laws.{first_lower}
 use Rattle.state.specs.Sidx.{field_ends, count_faults}

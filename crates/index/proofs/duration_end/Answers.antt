@@ -1,4 +1,4 @@
--- `index::duration_end` meets its contract, by the definition of `entryEnds`.
+-- `index::duration_end` meets its contract, by the definition of `entry_ends`.
 use mathlib.Core.Path.{refl}
 use Rattle.state.specs.Sidx.{entry_ends}
 use Rattle.index.proofs.duration_end.Goals as goal

@@ -1,5 +1,5 @@
--- `index::field_byte` meets its contract, by those of `spelled`, `field_end` and `next_field`, by the laws `field-small`, `field-ended` and
--- `one_fewer`, and by the definition of `stepSidx`.
+-- `index::field_byte` meets its contract, by those of `spelled`, `field_end` and `next_field`, by the laws `field_small`, `field_ended` and
+-- `one_fewer`, and by the definition of `step_sidx`.
 use Prim.Native.Nat.{◌+◌, ◌*◌}
 use mathlib.Core.Path.{refl}
 use native.Mathlib.Numerals.{add-one}
@@ -30,7 +30,8 @@ returns-then-more-eq0 c = λ leaves last work table.
 
 pub returns : goal.returns
 unfolding step_sidx
-returns c = let a = c.args in
+returns c =
+    let a = c.args in
     λ leaves last work table.
     let f = flow_of leaves a.at last work table in
     rw (c.next_field.ensures, c.spelled-v.ensures)

@@ -1,5 +1,5 @@
 -- `index::field_end` meets its contract, by those of `version_end`, `next_field`, `id_end`, `scale_end`, `time_end`, `offset_end` and `count_end`,
--- and by the definitions of `indexMost` and `fieldEnds`.
+-- and by the definitions of `index_most` and `field_ends`.
 use Rattle.state.specs.Sidx.{field_ends}
 use Rattle.state.specs.Ranges.{index_most}
 use Rattle.state.specs.Calls.{flow_of}

@@ -1,4 +1,4 @@
--- `index::id_end` meets its contract, by that of `unless_shown`, and by the definitions of `fieldEnds`, `idFaults` and `unless`.
+-- `index::id_end` meets its contract, by that of `unless_shown`, and by the definitions of `field_ends`, `id_faults` and `unless`.
 use Rattle.machine.specs.Faults.{unless}
 use Rattle.state.specs.Sidx.{field_ends, id_faults}
 use Rattle.index.proofs.id_end.Goals as goal

@@ -8,7 +8,8 @@ use borrow.Author.Rules.{rules}
 use Rattle.index.proofs.index_byte.Goals as goal
 
 pub field_byte-requires : goal.field_byte-requires
-field_byte-requires c = let asked = c.requires in
+field_byte-requires c =
+    let asked = c.requires in
     (rw c.in-Field.is at asked.2, asked.3)
 
 pub byte_place-i-requires : goal.byte_place-i-requires
@@ -19,14 +20,16 @@ byte_place-i-requires c = let asked = c.requires in (
 )
 
 pub bounds-work-i : goal.bounds-work-i
-bounds-work-i c = let a = c.args in
+bounds-work-i c =
+    let a = c.args in
     omega (
       arith,
       place_fits a.p c.byte_place-i.result c.in-Entry.is c.requires.2 c.requires.0 c.byte_place-i.ensures,
     )
 
 pub spelled-v-requires : goal.spelled-v-requires
-spelled-v-requires c = let asked = c.requires in
+spelled-v-requires c =
+    let asked = c.requires in
     entry_small c.in-Entry.is asked.2
 
 pub entry_end-requires : goal.entry_end-requires

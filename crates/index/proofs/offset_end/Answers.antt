@@ -1,4 +1,4 @@
--- `index::offset_end` meets its contract, by that of `unless_shown`, and by the definitions of `fieldEnds`, `offsetFaults` and `unless`.
+-- `index::offset_end` meets its contract, by that of `unless_shown`, and by the definitions of `field_ends`, `offset_faults` and `unless`.
 use Rattle.machine.specs.Faults.{unless}
 use Rattle.state.specs.Sidx.{field_ends, offset_faults}
 use Rattle.index.proofs.offset_end.Goals as goal

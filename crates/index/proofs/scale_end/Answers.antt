@@ -1,5 +1,5 @@
--- `index::scale_end` meets its contract, by those of `wide_more` and `unless_shown`, by the law `first-lower`, and by the definitions of `fieldEnds` and
--- `scaleFaults`.
+-- `index::scale_end` meets its contract, by those of `wide_more` and `unless_shown`, by the law `first_lower`, and by the definitions of `field_ends` and
+-- `scale_faults`.
 use native.Mathlib.Omega.{arith}
 use Rattle.index.proofs.Laws.{first_lower}
 use Rattle.state.specs.Sidx.{field_ends, scale_faults}

@@ -1,4 +1,4 @@
--- `index::size_end` meets its contract, by that of `unless_shown`, and by the definition of `entryEnds`.
+-- `index::size_end` meets its contract, by that of `unless_shown`, and by the definition of `entry_ends`.
 use Rattle.state.specs.Sidx.{entry_ends}
 use Rattle.index.proofs.size_end.Goals as goal
 

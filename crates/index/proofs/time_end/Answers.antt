@@ -1,4 +1,4 @@
--- `index::time_end` meets its contract, by those of `wide_more` and `unless_shown`, and by the definitions of `fieldEnds`, `timeFaults` and `unless`.
+-- `index::time_end` meets its contract, by those of `wide_more` and `unless_shown`, and by the definitions of `field_ends`, `time_faults` and `unless`.
 use Rattle.machine.specs.Faults.{unless}
 use Rattle.state.specs.Sidx.{field_ends, time_faults}
 use Rattle.index.proofs.time_end.Goals as goal

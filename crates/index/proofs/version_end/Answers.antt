@@ -1,5 +1,5 @@
--- `index::version_end` meets its contract, by those of `unless_shown` and `too_short`, by the law `second-lower`, and by the definitions of `fieldEnds`
--- and `sidxVersionFaults`.
+-- `index::version_end` meets its contract, by those of `unless_shown` and `too_short`, by the law `second_lower`, and by the definitions of `field_ends`
+-- and `sidx_version_faults`.
 use native.Mathlib.Omega.{arith}
 use Rattle.index.proofs.Laws.{second_lower}
 use Rattle.state.specs.Sidx.{field_ends, sidx_version_faults}

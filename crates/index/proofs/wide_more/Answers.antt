@@ -1,4 +1,4 @@
--- `index::wide_more` meets its contract, by the definition of `wideMore`.
+-- `index::wide_more` meets its contract, by the definition of `wide_more`.
 use Rattle.state.specs.Sidx.{wide_more}
 use Rattle.index.proofs.wide_more.Goals as goal
 

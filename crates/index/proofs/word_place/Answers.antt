@@ -1,4 +1,4 @@
--- `index::word_place` meets its contract, by the definition of `wordPlace`.
+-- `index::word_place` meets its contract, by the definition of `word_place`.
 use Rattle.state.specs.Sidx.{word_place}
 use Rattle.index.proofs.word_place.Goals as goal
 

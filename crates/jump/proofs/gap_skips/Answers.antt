@@ -1,4 +1,4 @@
--- `jump::gap_skips` meets its contract, by the definition of `gapSkips`.
+-- `jump::gap_skips` meets its contract, by the definition of `gap_skips`.
 use Rattle.state.specs.Jump.{gap_skips}
 use borrow.Author.Rules.{rules}
 use Rattle.jump.proofs.gap_skips.Goals as goal

@@ -1,4 +1,4 @@
--- `jump::leaf_skips` meets its contract, by that of `moof_skips`, and by the definitions of `leafSkips` and `leafBodySkips`.
+-- `jump::leaf_skips` meets its contract, by that of `moof_skips`, and by the definitions of `leaf_skips` and `leaf_body_skips`.
 use Rattle.state.specs.Jump.{leaf_skips, leaf_body_skips}
 use borrow.Author.Rules.{rules}
 use Rattle.jump.proofs.leaf_skips.Goals as goal

@@ -1,4 +1,4 @@
--- `jump::moof_skips` meets its contract, by that of `traf_skips`, and by the definitions of `moofSkips` and `moofBodySkips`.
+-- `jump::moof_skips` meets its contract, by that of `traf_skips`, and by the definitions of `moof_skips` and `moof_body_skips`.
 use Rattle.state.specs.Jump.{moof_skips, moof_body_skips}
 use borrow.Author.Rules.{rules}
 use Rattle.jump.proofs.moof_skips.Goals as goal

@@ -1,4 +1,4 @@
--- `jump::opening_skips` meets its contract, by the definitions of `openingSkips` and `openingBodySkips`.
+-- `jump::opening_skips` meets its contract, by the definitions of `opening_skips` and `opening_body_skips`.
 use Rattle.state.specs.Jump.{opening_skips, opening_body_skips}
 use borrow.Author.Rules.{rules}
 use Rattle.jump.proofs.opening_skips.Goals as goal

@@ -1,4 +1,4 @@
--- `jump::pass` meets its contract, by the definitions of `passedOn` and `Fitting`.
+-- `jump::pass` meets its contract, by the definitions of `passed_on` and `Fitting`.
 use native.Mathlib.Omega.{arith}
 use Rattle.jump.specs.Passes.{passed_on, Fitting}
 use borrow.Author.Rules.{rules}

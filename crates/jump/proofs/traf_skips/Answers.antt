@@ -1,4 +1,4 @@
--- `jump::traf_skips` meets its contract, by the definitions of `trafSkips` and `trafBodySkips`.
+-- `jump::traf_skips` meets its contract, by the definitions of `traf_skips` and `traf_body_skips`.
 use Rattle.state.specs.Jump.{traf_skips, traf_body_skips}
 use borrow.Author.Rules.{rules}
 use Rattle.jump.proofs.traf_skips.Goals as goal

@@ -1,4 +1,4 @@
--- `leaf::begin_leaf` meets its contract, by those of `moof_on`, `lift_moof` and `skip_leaf`, and by the definition of `beginLeaf`.
+-- `leaf::begin_leaf` meets its contract, by those of `moof_on`, `lift_moof` and `skip_leaf`, and by the definition of `begin_leaf`.
 use borrow.Author.Tests.{eq-eqb, ne_eqb}
 use Rattle.state.specs.Leaf.{begin_leaf}
 use Rattle.basics.specs.Choose.{pick}

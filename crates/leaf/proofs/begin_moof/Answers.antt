@@ -1,4 +1,4 @@
--- `leaf::begin_moof` meets its contract, by those of `traf_begin`, `lift_traf` and `skip_moof`, and by the definition of `beginMoof`.
+-- `leaf::begin_moof` meets its contract, by those of `traf_begin`, `lift_traf` and `skip_moof`, and by the definition of `begin_moof`.
 use borrow.Author.Tests.{eq-eqb, ne_eqb}
 use Rattle.state.specs.Leaf.{begin_moof}
 use Rattle.basics.specs.Choose.{pick}

@@ -1,4 +1,4 @@
--- `leaf::kind_flaw` meets its contract, by that of `leaf_kind_flaw`, by the law `after-kind`, and by its tests.
+-- `leaf::kind_flaw` meets its contract, by that of `leaf_kind_flaw`, by the law `after_kind`, and by its tests.
 use borrow.Author.Tests.{eq-eqb, ne_eqb}
 use Rattle.basics.specs.Choose.{pick}
 use Rattle.flaws.proofs.Places.{after_kind}

@@ -1,5 +1,5 @@
--- `leaf::leaf_body_byte` meets its contract, by those of `skip_leaf`, `moof_byte` and `lift_moof`, and by the definitions of `leafBodyBounds` and
--- `stepLeafBody`.
+-- `leaf::leaf_body_byte` meets its contract, by those of `skip_leaf`, `moof_byte` and `lift_moof`, and by the definitions of `leaf_body_bounds` and
+-- `step_leaf_body`.
 use native.Mathlib.Numerals.{add-one}
 use Rattle.state.specs.Leaf.{step_leaf_body}
 use Rattle.state.specs.Ranges.{leaf_body_bounds}

@@ -1,4 +1,4 @@
--- `leaf::leaf_lack` meets its contract, by the definitions of `lackOf` and `pick`.
+-- `leaf::leaf_lack` meets its contract, by the definitions of `lack_of` and `pick`.
 use Rattle.basics.specs.Choose.{pick}
 use Rattle.leaf.specs.Leaf.{lack_of}
 use Rattle.leaf.proofs.leaf_lack.Goals as goal

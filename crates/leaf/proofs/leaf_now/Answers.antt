@@ -1,4 +1,4 @@
--- `leaf::leaf_now` meets its contract, by the definition of `leafNow`.
+-- `leaf::leaf_now` meets its contract, by the definition of `leaf_now`.
 use mathlib.Core.Path.{ap, sym}
 use Rattle.state.specs.Leaf.{leaf_now}
 use Rattle.leaf.specs.Leaf.{passed_of}

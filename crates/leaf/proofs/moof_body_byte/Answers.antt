@@ -1,5 +1,5 @@
--- `leaf::moof_body_byte` meets its contract, by those of `skip_moof`, `traf_byte` and `lift_traf`, and by the definitions of `moofBodyBounds` and
--- `stepMoofBody`.
+-- `leaf::moof_body_byte` meets its contract, by those of `skip_moof`, `traf_byte` and `lift_traf`, and by the definitions of `moof_body_bounds` and
+-- `step_moof_body`.
 use native.Mathlib.Numerals.{add-one}
 use Rattle.state.specs.Leaf.{step_moof_body}
 use Rattle.state.specs.Ranges.{moof_body_bounds}

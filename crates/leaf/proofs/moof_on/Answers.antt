@@ -1,4 +1,4 @@
--- `leaf::moof_on` meets its contract, by the definitions of `goOn`, `moofNext`, `unless` and `pick`.
+-- `leaf::moof_on` meets its contract, by the definitions of `go_on`, `moof_next`, `unless` and `pick`.
 use borrow.Author.Tests.{eq-eqb, ne_eqb}
 use Rattle.basics.specs.Choose.{pick}
 use Rattle.machine.specs.Faults.{unless}

@@ -1,4 +1,4 @@
--- `leaf::seen_after` meets its contract, by the definition of `seenNow`.
+-- `leaf::seen_after` meets its contract, by the definition of `seen_now`.
 use mathlib.Core.Path.{ap, sym}
 use Rattle.state.specs.Leaf.{seen_now}
 use Rattle.leaf.specs.Leaf.{passed_of}

@@ -1,4 +1,4 @@
--- `leap_leaf::head_ahead` meets its contract, by those of `word_at` and `leaf_with`, and by the laws `from-none` and `from-begun`.
+-- `leap_leaf::head_ahead` meets its contract, by those of `word_at` and `leaf_with`, and by the laws `from_none` and `from_begun`.
 use native.Mathlib.Omega.{arith}
 use Rattle.leap_leaf.proofs.Laws.{from_none}
 use Rattle.leap_leaf.proofs.Begun.{from_begun}

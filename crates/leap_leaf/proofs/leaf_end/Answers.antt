@@ -1,4 +1,4 @@
--- `leap_leaf::leaf_end` meets its contract, by those of `head_end` and `moof_end`, and by the definition of `leafEnd`.
+-- `leap_leaf::leaf_end` meets its contract, by those of `head_end` and `moof_end`, and by the definition of `leaf_end`.
 use borrow.Author.Rules.{rules}
 use Rattle.leap_leaf.specs.Begun.{leaf_end}
 use Rattle.leap_leaf.proofs.leaf_end.Goals as goal

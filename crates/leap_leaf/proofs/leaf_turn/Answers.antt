@@ -1,4 +1,4 @@
--- `leap_leaf::leaf_turn` meets its contract, by those of `leaf_ahead` and `leaf_byte`, and by the laws `turn-stops`, `turn-goes` and `from-within`.
+-- `leap_leaf::leaf_turn` meets its contract, by those of `leaf_ahead` and `leaf_byte`, and by the laws `turn_stops`, `turn_goes` and `from_within`.
 use Prim.Native.Nat.{ℕ, ◌≤◌, ◌<◌}
 use native.Mathlib.Omega.{arith}
 use lib.ListN.{length, get_or}

@@ -1,4 +1,4 @@
--- `leap_leaf::leaf_with` meets its contract, by that of `moof_with`, and by the definition of `leafWith`.
+-- `leap_leaf::leaf_with` meets its contract, by that of `moof_with`, and by the definition of `leaf_with`.
 use borrow.Author.Rules.{rules}
 use Rattle.leap_leaf.specs.Begun.{leaf_with}
 use Rattle.leap_leaf.proofs.leaf_with.Goals as goal

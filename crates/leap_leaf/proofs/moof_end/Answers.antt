@@ -1,4 +1,4 @@
--- `leap_leaf::moof_end` meets its contract, by those of `head_end` and `traf_end`, and by the definition of `moofEnd`.
+-- `leap_leaf::moof_end` meets its contract, by those of `head_end` and `traf_end`, and by the definition of `moof_end`.
 use borrow.Author.Rules.{rules}
 use Rattle.leap_leaf.specs.Begun.{moof_end}
 use Rattle.leap_leaf.proofs.moof_end.Goals as goal

@@ -1,4 +1,4 @@
--- `leap_leaf::moof_with` meets its contract, by that of `traf_with`, and by the definition of `moofWith`.
+-- `leap_leaf::moof_with` meets its contract, by that of `traf_with`, and by the definition of `moof_with`.
 use borrow.Author.Rules.{rules}
 use Rattle.leap_leaf.specs.Begun.{moof_with}
 use Rattle.leap_leaf.proofs.moof_with.Goals as goal

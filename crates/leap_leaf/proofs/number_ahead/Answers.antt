@@ -1,4 +1,4 @@
--- `leap_leaf::number_ahead` meets its contract, by those of `least`, `spell_bytes` and `leaf_again`, and by the laws `spelled-fits` and `from_told`.
+-- `leap_leaf::number_ahead` meets its contract, by those of `least`, `spell_bytes` and `leaf_again`, and by the laws `spelled_fits` and `from_told`.
 use Prim.Native.Nat.{ℕ, ◌-◌}
 use mathlib.Core.Path.{◌≡◌, ap, ◌∙◌}
 use native.Mathlib.Omega.{arith}

@@ -1,4 +1,4 @@
--- `leap_leaf::skipped_ahead` meets its contract, by those of `leaf_skips` and `passing`, and by the law `from-skipped`.
+-- `leap_leaf::skipped_ahead` meets its contract, by those of `leaf_skips` and `passing`, and by the law `from_skipped`.
 use Prim.Native.Nat.{ℕ, suc, ◌+◌, ◌-◌}
 use mathlib.Core.Path.{◌≡◌, ap, ◌∙◌}
 use native.Mathlib.Omega.{arith}

@@ -1,4 +1,4 @@
--- `leap_leaf::traf_end` meets its contract, by that of `head_end`, and by the definition of `trafEnd`.
+-- `leap_leaf::traf_end` meets its contract, by that of `head_end`, and by the definition of `traf_end`.
 use borrow.Author.Rules.{rules}
 use Rattle.leap_leaf.specs.Begun.{traf_end}
 use Rattle.leap_leaf.proofs.traf_end.Goals as goal

@@ -1,4 +1,4 @@
--- `leap_leaf::traf_with` meets its contract, by the definition of `trafWith`.
+-- `leap_leaf::traf_with` meets its contract, by the definition of `traf_with`.
 use Rattle.leap_leaf.specs.Begun.{traf_with}
 use Rattle.leap_leaf.proofs.traf_with.Goals as goal
 

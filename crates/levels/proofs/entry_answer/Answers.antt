@@ -11,11 +11,13 @@ pub returns-then-altered : goal.returns-then-altered
 returns-then-altered c = sym (pick_yes _ _ _ (sym c.altered.ensures ∙ c.if-altered.true))
 
 pub slot_of-requires : goal.slot_of-requires
-slot_of-requires c = let a = c.args in
+slot_of-requires c =
+    let a = c.args in
     let k = unaltered a.l a.e a.at a.n (sym c.altered.ensures ∙ c.if-altered.false) in
     (omega (arith, k.0), omega (arith, k.1))
 
 pub returns : goal.returns
-returns c = let a = c.args in
+returns c =
+    let a = c.args in
     ap (λ (s : Slot). read.Stands a.e.inner s) c.slot_of.ensures
     ∙ sym (pick_no _ _ _ (sym c.altered.ensures ∙ c.if-altered.false))

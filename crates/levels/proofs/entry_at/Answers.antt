@@ -1,4 +1,4 @@
--- `levels::entry_at` meets its contract, by that of `word_at`, and by the law `entry-law`.
+-- `levels::entry_at` meets its contract, by that of `word_at`, and by the law `entry_law`.
 use Rattle.levels.proofs.Places.{entry_law}
 use Rattle.levels.proofs.entry_at.Goals as goal
 

@@ -1,4 +1,4 @@
--- `levels::next_entry` meets its contract, by those of `entry_place` and `entry_at`, and by the law `place-fits`.
+-- `levels::next_entry` meets its contract, by those of `entry_place` and `entry_at`, and by the law `place_fits`.
 use mathlib.Core.Path.{ap, ◌∙◌}
 use Prim.Native.Nat.{ℕ}
 use native.Mathlib.Omega.{arith}
@@ -7,7 +7,8 @@ use Rattle.state.specs.Levels.{entry_at}
 use Rattle.levels.proofs.next_entry.Goals as goal
 
 pub entry_at-requires : goal.entry_at-requires
-entry_at-requires c = let a = c.args in
+entry_at-requires c =
+    let a = c.args in
     omega (arith, c.entry_place-place.ensures, place_fits a.ls c.requires.1 c.requires.2, c.requires.0)
 
 pub returns : goal.returns

@@ -1,4 +1,4 @@
--- `levels::still_four` meets its contract, by that of `still_three`, by the laws `pick_yes` and `pick_no`, and by the definition of `stillFour`.
+-- `levels::still_four` meets its contract, by that of `still_three`, by the laws `pick_yes` and `pick_no`, and by the definition of `still_four`.
 use mathlib.Core.Path.{sym, ◌∙◌}
 use borrow.Author.Tests.{eq-eqb, ne_eqb}
 use Rattle.basics.proofs.Picks.{pick_yes, pick_no}

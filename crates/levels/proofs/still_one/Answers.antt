@@ -1,4 +1,4 @@
--- `levels::still_one` meets its contract, by the laws `pick_yes` and `pick_no`, and by the definition of `stillOne`.
+-- `levels::still_one` meets its contract, by the laws `pick_yes` and `pick_no`, and by the definition of `still_one`.
 use mathlib.Core.Path.{sym}
 use borrow.Author.Tests.{eq-eqb, ne_eqb}
 use Rattle.basics.proofs.Picks.{pick_yes, pick_no}

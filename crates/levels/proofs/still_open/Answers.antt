@@ -1,5 +1,5 @@
--- `levels::still_open` meets its contract, by those of `still_one`, `still_two`, `still_three` and `still_four`, and by the definitions of `stillOpen`
--- and `stillFour`.
+-- `levels::still_open` meets its contract, by those of `still_one`, `still_two`, `still_three` and `still_four`, and by the definitions of `still_open`
+-- and `still_four`.
 use Rattle.state.specs.Levels.{still_open}
 use Rattle.levels.specs.Views.{still_four}
 use borrow.Author.Rules.{rules}

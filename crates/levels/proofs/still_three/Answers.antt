@@ -1,4 +1,4 @@
--- `levels::still_three` meets its contract, by that of `still_two`, by the laws `pick_yes` and `pick_no`, and by the definition of `stillThree`.
+-- `levels::still_three` meets its contract, by that of `still_two`, by the laws `pick_yes` and `pick_no`, and by the definition of `still_three`.
 use mathlib.Core.Path.{sym, ◌∙◌}
 use borrow.Author.Tests.{eq-eqb, ne_eqb}
 use Rattle.basics.proofs.Picks.{pick_yes, pick_no}

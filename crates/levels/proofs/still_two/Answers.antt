@@ -1,4 +1,4 @@
--- `levels::still_two` meets its contract, by that of `still_one`, by the laws `pick_yes` and `pick_no`, and by the definition of `stillTwo`.
+-- `levels::still_two` meets its contract, by that of `still_one`, by the laws `pick_yes` and `pick_no`, and by the definition of `still_two`.
 use mathlib.Core.Path.{sym, ◌∙◌}
 use borrow.Author.Tests.{eq-eqb, ne_eqb}
 use Rattle.basics.proofs.Picks.{pick_yes, pick_no}

@@ -1,4 +1,4 @@
--- `levels::took_entry` meets its contract, by that of `took`, by the law `next_of`, and by the definitions of `inmost` and `tookEntry`.
+-- `levels::took_entry` meets its contract, by that of `took`, by the law `next_of`, and by the definitions of `inmost` and `took_entry`.
 use Rattle.levels.proofs.Places.{next_of}
 use Rattle.state.specs.Levels.{inmost, took_entry}
 use Rattle.levels.proofs.took_entry.Goals as goal

@@ -1,4 +1,4 @@
--- `listing::listed_line` meets its contract, by those of `starting` and `with_numbers`, and by the law `line-length`.
+-- `listing::listed_line` meets its contract, by those of `starting` and `with_numbers`, and by the law `line_length`.
 use native.Mathlib.Omega.{arith}
 use Rattle.listing.specs.Text.{ok_word}
 use Rattle.listing.proofs.Laws.{line_length}

@@ -1,4 +1,4 @@
--- `listing::table_line` meets its contract, by those of `starting` and `leaf_at`, and by the laws `after-held` and `after_none`.
+-- `listing::table_line` meets its contract, by those of `starting` and `leaf_at`, and by the laws `after_held` and `after_none`.
 use Rattle.listing.proofs.Laws.{after_held, after_none}
 use Rattle.listing.proofs.table_line.Goals as goal
 

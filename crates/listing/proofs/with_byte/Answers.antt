@@ -1,4 +1,4 @@
--- `listing::with_byte` meets its contract, by the law `adds-byte`.
+-- `listing::with_byte` meets its contract, by the law `adds_byte`.
 use borrow.Author.Rules.{rules}
 use Rattle.listing.proofs.Laws.{adds_byte}
 use Rattle.listing.proofs.with_byte.Goals as goal

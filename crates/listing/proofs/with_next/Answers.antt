@@ -1,4 +1,4 @@
--- `listing::with_next` meets its contract, by those of `with_byte` and `with_decimal`, and by the laws `adds-both`, `adds-as` and `spaced-one`.
+-- `listing::with_next` meets its contract, by those of `with_byte` and `with_decimal`, and by the laws `adds_both`, `adds_as` and `spaced_one`.
 use mathlib.Core.Path.{sym}
 use Rattle.listing.proofs.Laws.{adds_both, adds_as, spaced_one}
 use Rattle.listing.proofs.with_next.Goals as goal

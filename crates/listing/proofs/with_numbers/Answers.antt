@@ -13,7 +13,8 @@ pub loop-i-init : goal.loop-i-init
 loop-i-init c = (omega arith, adds_as (sym spaced_none) (adds_none c.args.line))
 
 pub with_next-r-requires : goal.with_next-r-requires
-with_next-r-requires c = let numbers : List ℕ = c.args.numbers.now in
+with_next-r-requires c =
+    let numbers : List ℕ = c.args.numbers.now in
     let i : ℕ = c.loop-i.i in
     omega (arith, spaced_length (take i numbers), length-take i numbers)
 

@@ -1,4 +1,4 @@
--- `lookup::covers_beyond` meets its contract, by the laws `past_end` and `beyond-room`.
+-- `lookup::covers_beyond` meets its contract, by the laws `past_end` and `beyond_room`.
 use Prim.Native.Nat.{◌+◌, ◌^◌}
 use mathlib.Core.Path.{refl, sym}
 use native.Mathlib.Omega.{arith}
@@ -11,10 +11,12 @@ pub overflow_sub-room : goal.overflow_sub-room
 overflow_sub-room c = omega (arith, (c.type_inv.table (c.args.at + 2)).fits)
 
 pub returns-then-duration-room : goal.returns-then-duration-room
-returns-then-duration-room c = let a = c.args in
+returns-then-duration-room c =
+    let a = c.args in
     let small = (c.type_inv.table (a.at + 2)).fits in
     sym (past_end (record_from a.table.now a.at) (2 ^ 64 + a.t) (omega arith) (omega arith))
 
 pub returns : goal.returns
-returns c = let a = c.args in
+returns c =
+    let a = c.args in
     sym (beyond_room (record_from a.table.now a.at) a.t _ (c.type_inv.table (a.at + 2)).fits refl c.if-duration-room.false)

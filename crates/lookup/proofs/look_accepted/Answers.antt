@@ -1,5 +1,5 @@
--- `lookup::look_accepted` meets its contract, by those of `accepted_in_range` and `look_among`, by the law `accepted-fits`, and by the definitions
--- of `lookupOf` and `lookupState`.
+-- `lookup::look_accepted` meets its contract, by those of `accepted_in_range` and `look_among`, by the law `accepted_fits`, and by the definitions
+-- of `lookup_of` and `lookup_state`.
 use mathlib.Core.Path.{sym, ◌∙◌, subst}
 use Rattle.basics.proofs.Picks.{pick_yes, pick_no}
 use Rattle.state.specs.declared.State.TheVariants as state
@@ -11,13 +11,15 @@ use Rattle.lookup.proofs.Exactly.{accepted_fits}
 use Rattle.lookup.proofs.look_accepted.Goals as goal
 
 pub look_among-requires : goal.look_among-requires
-look_among-requires c = let a = c.args in
+look_among-requires c =
+    let a = c.args in
     let fits = accepted_fits a.count a.leaves a.top (sym c.accepted_in_range.ensures ∙ c.if-accepted_in_range.true) in
     record { list_fits = fits.0; scaled = fits.1; scale_fits = fits.2 }
 
 pub returns-then-accepted_in_range : goal.returns-then-accepted_in_range
 unfolding lookup_of lookup_state
-returns-then-accepted_in_range c = let a = c.args in
+returns-then-accepted_in_range c =
+    let a = c.args in
     let inside = sym c.accepted_in_range.ensures ∙ c.if-accepted_in_range.true in
     subst (λ (q : LookupAnswer). Spots a.table.now q c.look_among.result)
     (sym (pick_yes (in_range (state.Accepted a.count a.leaves a.top)) _ _ inside))
@@ -25,5 +27,6 @@ returns-then-accepted_in_range c = let a = c.args in
 
 pub returns : goal.returns
 unfolding lookup_of
-returns c = let a = c.args in
+returns c =
+    let a = c.args in
     sym (pick_no (in_range (state.Accepted a.count a.leaves a.top)) _ _ (sym c.accepted_in_range.ensures ∙ c.if-accepted_in_range.false))

@@ -1,4 +1,4 @@
--- `lookup::look_beyond` meets its contract, by that of `covers_beyond`, by the laws of a place (`Turns`), and by `outside-past`: no record starts at
+-- `lookup::look_beyond` meets its contract, by that of `covers_beyond`, by the laws of a place (`Turns`), and by `outside_past`: no record starts at
 -- 2^64 ticks or later, since a start has 64 bits.
 use Prim.Native.Nat.{◌+◌, ◌^◌, ◌*◌, ◌-◌}
 use Rattle.table.specs.Table.{record_numbers}

@@ -13,16 +13,19 @@ pub covers_at-requires : goal.covers_at-requires
 covers_at-requires c = let so = c.loop-at.invariant.starts in omega arith
 
 pub returns-then-covers_at : goal.returns-then-covers_at
-returns-then-covers_at c = let a = c.args in
+returns-then-covers_at c =
+    let a = c.args in
     place_found a.leaves a.table.now (tick a.t) c.loop-at.at c.loop-at.invariant (omega arith) (omega arith) (sym c.if-covers_at.true ∙ c.covers_at.ensures)
 
 pub overflow_add-at : goal.overflow_add-at
 overflow_add-at c = let so = c.loop-at.invariant.starts in omega arith
 
 pub loop-at-preserved : goal.loop-at-preserved
-loop-at-preserved c = let a = c.args in
+loop-at-preserved c =
+    let a = c.args in
     next_place a.leaves a.table.now (tick a.t) c.loop-at.at c.loop-at.invariant (omega arith) (sym c.if-covers_at.false ∙ c.covers_at.ensures)
 
 pub returns : goal.returns
-returns c = let a = c.args in
+returns c =
+    let a = c.args in
     c.outside_list.ensures ∙ last_place a.leaves a.table.now (tick a.t) c.loop-at.at c.loop-at.invariant (omega arith)

@@ -1,17 +1,20 @@
--- `lookup::outside_list` meets its contract, by the laws `outside-none`, `outside-before` and `outside-past`.
+-- `lookup::outside_list` meets its contract, by the laws `outside_none`, `outside_before` and `outside_past`.
 use mathlib.Core.Path.{sym}
 use Rattle.moment.specs.Moments.{tick}
 use Rattle.lookup.proofs.Passing.{outside_none, outside_before, outside_past}
 use Rattle.lookup.proofs.outside_list.Goals as goal
 
 pub returns-then-leaves-eq0 : goal.returns-then-leaves-eq0
-returns-then-leaves-eq0 c = let a = c.args in
+returns-then-leaves-eq0 c =
+    let a = c.args in
     sym (outside_none a.leaves a.table.now (tick a.t) c.if-leaves-eq0.true)
 
 pub returns-then-t-start : goal.returns-then-t-start
-returns-then-t-start c = let a = c.args in
+returns-then-t-start c =
+    let a = c.args in
     sym (outside_before a.leaves a.table.now a.t c.if-leaves-eq0.false c.if-t-start.true)
 
 pub returns : goal.returns
-returns c = let a = c.args in
+returns c =
+    let a = c.args in
     sym (outside_past a.leaves a.table.now a.t c.if-t-start.false)

@@ -1,5 +1,5 @@
 -- `lookup::spot_of` meets its contract, by those of `not_accepted` and `look_accepted`, by the law `refused_unless_accepted`, and by the definition
--- of `lookupOf`.
+-- of `lookup_of`.
 use borrow.Enum.Refused.{opened}
 use mathlib.Core.Path.{◌≡◌, refl, sym, ap, ◌∙◌, subst}
 use mathlib.Core.List.{List, [], ◌∷◌}
@@ -29,12 +29,14 @@ refused_unless_accepted (state.Accepted n leaves top) table r one = absurd (miss
 
 pub returns-in_default : goal.returns-in_default
 unfolding lookup_of
-returns-in_default c = let a = c.args in
+returns-in_default c =
+    let a = c.args in
     c.not_accepted.ensures
     ∙ sym (ap (λ (q : LookupAnswer). pick (in_range a.s) q (answer.Refused (refusal 2 0))) (refused_unless_accepted a.s a.table.now a.request (opened c.in_default.in_default-own.keys2)))
 
 pub returns : goal.returns
-returns c = let a = c.args in
+returns c =
+    let a = c.args in
     subst (λ (q : State). Spots a.table.now (lookup_of q a.table.now a.request) c.look_accepted.result)
     (sym c.in-Accepted.is)
     c.look_accepted.ensures

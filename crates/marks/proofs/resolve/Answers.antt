@@ -5,6 +5,7 @@ use Rattle.marks.specs.declared.Resolved.{Resolved}
 use Rattle.marks.proofs.resolve.Goals as goal
 
 pub returns : goal.returns
-returns c = let a = c.args in
+returns c =
+    let a = c.args in
     let answered : LookupAnswer → Resolved = λ q. record { page = a.mark.page; answer = q } in
     ap answered c.lookup-answer.ensures

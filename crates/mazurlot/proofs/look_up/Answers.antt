@@ -1,4 +1,4 @@
--- `mazurlot::look_up` meets its contract, by those of `look` and `say_found`, and by the law `spot-told`.
+-- `mazurlot::look_up` meets its contract, by those of `look` and `say_found`, and by the law `spot_told`.
 use mathlib.Core.Path.{◌≡◌, refl, ap, ◌∙◌}
 use borrow.Author.Tests.{lt-ltb, le-ltb}
 use Rattle.basics.specs.Choose.{pick}
@@ -18,7 +18,6 @@ found : (c : After-look-spot) → let args = c.args in
 found c =
     let args = c.args in
     spot_told args.table.now (look_from (unpack_of args.state.now) args.table.now args.request) c.look-spot.result c.look-spot.ensures
-
 
 pub returns-then-answer-lt-LOOKUP_VALUES : goal.returns-then-answer-lt-LOOKUP_VALUES
 unfolding lookup_call pick

@@ -1,4 +1,4 @@
--- `mazurlot::mazurlot_resolve` meets its contract, by those of `look`, `say_found` and `say_page`, and by the laws `page-said`, `spot-told` and `mark-looked-up`.
+-- `mazurlot::mazurlot_resolve` meets its contract, by those of `look`, `say_found` and `say_page`, and by the laws `page_said`, `spot_told` and `mark_looked_up`.
 use mathlib.Core.Path.{◌≡◌, refl, sym, ap, ◌∙◌}
 use mathlib.Core.List.{[]}
 use native.Mathlib.Omega.{arith}
@@ -20,7 +20,6 @@ found : (c : After-look-spot) → let args = c.args in
 found c =
     let args = c.args in
     spot_told args.table.now (look_from (unpack_of args.state.now) args.table.now (request.Seconds args.seconds)) c.look-spot.result c.look-spot.ensures
-
 
 pub returns-then-answer-lt-MARK_VALUES : goal.returns-then-answer-lt-MARK_VALUES
 unfolding resolve_call pick

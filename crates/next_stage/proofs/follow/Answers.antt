@@ -7,5 +7,6 @@ use Rattle.next_stage.specs.Views.{flowing}
 use Rattle.next_stage.proofs.follow.Goals as goal
 
 pub returns : goal.returns
-returns c = let a = c.args in
+returns c =
+    let a = c.args in
     λ leaves work table. c.onward.ensures leaves work table ∙ ap (λ (o : Option Levels). defs.onward a.top o (flowing a.r work table)) c.still_open-still.ensures

@@ -1,4 +1,4 @@
--- `next_stage::leaf_after` meets its contract, by that of `follow`, by the law `leaf-done`, and by the definitions of `lift` and `tableAfter`.
+-- `next_stage::leaf_after` meets its contract, by that of `follow`, by the law `leaf_done`, and by the definitions of `lift` and `table_after`.
 use Rattle.machine.specs.Run.{lift}
 use Rattle.state.specs.Stages as defs
 use Rattle.table.specs.Table.{put_record}
@@ -11,7 +11,8 @@ unfolding lift table_after
 returns-in-Go c = λ work table. rw c.in-Go.is
 
 pub returns-in-Done : goal.returns-in-Done
-returns-in-Done c = let a = c.args in
+returns-in-Done c =
+    let a = c.args in
     λ work table. rw c.in-Done.is
     (leaf_done a.top a.ls a.slot a.r work table c.in-Done.seen c.follow.result
     (c.follow.ensures a.r.leaves work (put_record table a.r.leaves (defs.leaf_record a.slot a.r.now c.in-Done.seen.first))))

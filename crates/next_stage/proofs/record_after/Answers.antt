@@ -1,4 +1,4 @@
--- `next_stage::record_after` meets its contract, by those of `leaf_record` and `put_record`, and by the definition of `tableAfter`.
+-- `next_stage::record_after` meets its contract, by those of `leaf_record` and `put_record`, and by the definition of `table_after`.
 use mathlib.Core.Path.{ap, ◌∙◌}
 use Rattle.table.specs.declared.Record.{Record}
 use Rattle.table.specs.Table.{put_record}
@@ -14,7 +14,8 @@ returns-in-Go c = rw c.in-Go.is
 
 pub returns-in-Done : goal.returns-in-Done
 unfolding table_after
-returns-in-Done c = let a = c.args in
+returns-in-Done c =
+    let a = c.args in
     rw c.in-Done.is
     (c.put_record.ensures ∙ ap (λ (r : Record). put_record a.table.now a.leaves r) c.leaf_record.ensures)
 

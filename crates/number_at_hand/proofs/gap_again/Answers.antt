@@ -1,4 +1,4 @@
--- `number_at_hand::gap_again` meets its contract, by that of `head_again`, and by the definition of `gapNumber`.
+-- `number_at_hand::gap_again` meets its contract, by that of `head_again`, and by the definition of `gap_number`.
 use borrow.Author.Rules.{rules}
 use Rattle.state.specs.Numbers.{gap_number}
 use Rattle.number_at_hand.proofs.gap_again.Goals as goal

@@ -1,4 +1,4 @@
--- `number_at_hand::gap_number` meets its contract, by those of `head_number` and `unstored`, and by the definitions of `gapNumber`, `isStored` and `nextPlace`.
+-- `number_at_hand::gap_number` meets its contract, by those of `head_number` and `unstored`, and by the definitions of `gap_number`, `is_stored` and `next_place`.
 use borrow.Author.Rules.{rules}
 use Rattle.state.specs.Numbers.{gap_number}
 use Rattle.number_at_hand.specs.Views.{is_stored, next_place}

@@ -1,4 +1,4 @@
--- `number_at_hand::head_again` meets its contract, by the definition of `headNumber`.
+-- `number_at_hand::head_again` meets its contract, by the definition of `head_number`.
 use borrow.Author.Rules.{rules}
 use Rattle.state.specs.Numbers.{head_number}
 use Rattle.number_at_hand.proofs.head_again.Goals as goal

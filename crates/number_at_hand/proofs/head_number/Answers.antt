@@ -1,4 +1,4 @@
--- `number_at_hand::head_number` meets its contract, by that of `unstored`, and by the definitions of `headNumber`, `isStored` and `nextPlace`.
+-- `number_at_hand::head_number` meets its contract, by that of `unstored`, and by the definitions of `head_number`, `is_stored` and `next_place`.
 use borrow.Author.Rules.{rules}
 use Rattle.state.specs.Numbers.{head_number}
 use Rattle.number_at_hand.specs.Views.{is_stored, next_place}

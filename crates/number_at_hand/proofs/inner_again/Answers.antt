@@ -1,4 +1,4 @@
--- `number_at_hand::inner_again` meets its contract, by those of `head_again` and `sidx_again`, and by the definition of `innerNumber`.
+-- `number_at_hand::inner_again` meets its contract, by those of `head_again` and `sidx_again`, and by the definition of `inner_number`.
 use borrow.Author.Rules.{rules}
 use Rattle.state.specs.Numbers.{inner_number}
 use Rattle.state.specs.Sidx.{under}

@@ -1,4 +1,4 @@
--- `number_at_hand::inner_number` meets its contract, by those of `head_number`, `depth` and `sidx_number`, and by the definitions of `innerBounds`, `innerNumber`, `isStored` and `nextPlace`.
+-- `number_at_hand::inner_number` meets its contract, by those of `head_number`, `depth` and `sidx_number`, and by the definitions of `inner_bounds`, `inner_number`, `is_stored` and `next_place`.
 use borrow.Author.Rules.{rules}
 use Rattle.state.specs.Numbers.{inner_number}
 use Rattle.number_at_hand.specs.Views.{is_stored, next_place}

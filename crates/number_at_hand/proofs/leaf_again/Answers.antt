@@ -1,4 +1,4 @@
--- `number_at_hand::leaf_again` meets its contract, by those of `head_again` and `moof_again`, and by the definitions of `leafNumber` and `leafBodyNumber`.
+-- `number_at_hand::leaf_again` meets its contract, by those of `head_again` and `moof_again`, and by the definitions of `leaf_number` and `leaf_body_number`.
 use borrow.Author.Rules.{rules}
 use Rattle.state.specs.Numbers.{leaf_body_number, leaf_number}
 use Rattle.number_at_hand.proofs.leaf_again.Goals as goal

@@ -1,5 +1,5 @@
--- `number_at_hand::leaf_number` meets its contract, by those of `head_number`, `unstored` and `moof_number`, and by the definitions of `leafNumber`, `isStored`, `nextPlace` and
--- `leafBodyNumber`.
+-- `number_at_hand::leaf_number` meets its contract, by those of `head_number`, `unstored` and `moof_number`, and by the definitions of `leaf_number`, `is_stored`, `next_place` and
+-- `leaf_body_number`.
 use borrow.Author.Rules.{rules}
 use Rattle.state.specs.Numbers.{leaf_body_number, leaf_number}
 use Rattle.number_at_hand.specs.Views.{is_stored, next_place}

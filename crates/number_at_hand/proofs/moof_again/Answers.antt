@@ -1,4 +1,4 @@
--- `number_at_hand::moof_again` meets its contract, by those of `head_again` and `traf_again`, and by the definitions of `moofNumber` and `moofBodyNumber`.
+-- `number_at_hand::moof_again` meets its contract, by those of `head_again` and `traf_again`, and by the definitions of `moof_number` and `moof_body_number`.
 use borrow.Author.Rules.{rules}
 use Rattle.state.specs.Numbers.{moof_body_number, moof_number}
 use Rattle.number_at_hand.proofs.moof_again.Goals as goal

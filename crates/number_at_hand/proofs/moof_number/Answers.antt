@@ -1,5 +1,5 @@
--- `number_at_hand::moof_number` meets its contract, by those of `head_number`, `unstored` and `traf_number`, and by the definitions of `moofNumber`, `isStored`, `nextPlace` and
--- `moofBodyNumber`.
+-- `number_at_hand::moof_number` meets its contract, by those of `head_number`, `unstored` and `traf_number`, and by the definitions of `moof_number`, `is_stored`, `next_place` and
+-- `moof_body_number`.
 use borrow.Author.Rules.{rules}
 use Rattle.state.specs.Numbers.{moof_body_number, moof_number}
 use Rattle.number_at_hand.specs.Views.{is_stored, next_place}

@@ -1,4 +1,4 @@
--- `number_at_hand::opening_again` meets its contract, by those of `head_again` and `sidx_again`, and by the definitions of `openingNumber` and `openingBodyNumber`.
+-- `number_at_hand::opening_again` meets its contract, by those of `head_again` and `sidx_again`, and by the definitions of `opening_number` and `opening_body_number`.
 use borrow.Author.Rules.{rules}
 use Rattle.state.specs.Numbers.{opening_body_number, opening_number}
 use Rattle.state.specs.Sidx.{topmost}

@@ -1,5 +1,5 @@
--- `number_at_hand::opening_number` meets its contract, by those of `head_number`, `unstored` and `sidx_number`, and by the definitions of `openingBounds`, `openingBodyBounds`, `openingNumber`,
--- `isStored`, `nextPlace` and `openingBodyNumber`.
+-- `number_at_hand::opening_number` meets its contract, by those of `head_number`, `unstored` and `sidx_number`, and by the definitions of `opening_bounds`, `opening_body_bounds`, `opening_number`,
+-- `is_stored`, `next_place` and `opening_body_number`.
 use borrow.Author.Rules.{rules}
 use Rattle.state.specs.Numbers.{opening_body_number, opening_number}
 use Rattle.number_at_hand.specs.Views.{is_stored, next_place}

@@ -1,4 +1,4 @@
--- `number_at_hand::sidx_again` meets its contract, by the definition of `sidxNumber`.
+-- `number_at_hand::sidx_again` meets its contract, by the definition of `sidx_number`.
 use Rattle.state.specs.Numbers.{sidx_number}
 use Rattle.number_at_hand.proofs.sidx_again.Goals as goal
 

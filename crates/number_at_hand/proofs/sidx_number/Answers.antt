@@ -1,5 +1,5 @@
--- `number_at_hand::sidx_number` meets its contract, by those of `unstored` and `byte_place`, by the laws `entry-summed` and `entry_more`, and by the definitions of `sidxNumber`, `isStored` and
--- `nextPlace`.
+-- `number_at_hand::sidx_number` meets its contract, by those of `unstored` and `byte_place`, by the laws `entry_summed` and `entry_more`, and by the definitions of `sidx_number`, `is_stored` and
+-- `next_place`.
 use borrow.Author.Rules.{rules}
 use Rattle.state.specs.Numbers.{sidx_number}
 use Rattle.number_at_hand.specs.Views.{is_stored, next_place}

@@ -1,4 +1,4 @@
--- `number_at_hand::stage_again` meets its contract, by those of `opening_again`, `gap_again`, `leaf_again`, `in_leaf` and `inner_again`, and by the definition of `stageNumber`.
+-- `number_at_hand::stage_again` meets its contract, by those of `opening_again`, `gap_again`, `leaf_again`, `in_leaf` and `inner_again`, and by the definition of `stage_number`.
 use borrow.Author.Rules.{rules}
 use Rattle.state.specs.Numbers.{stage_number}
 use Rattle.number_at_hand.proofs.stage_again.Goals as goal

@@ -1,5 +1,5 @@
--- `number_at_hand::stage_number` meets its contract, by those of `opening_number`, `gap_number`, `unstored`, `leaf_number` and `inner_number`, by the law `four-within`, and by the definitions
--- of `stageBounds`, `stageNumber`, `isStored` and `nextPlace`.
+-- `number_at_hand::stage_number` meets its contract, by those of `opening_number`, `gap_number`, `unstored`, `leaf_number` and `inner_number`, by the law `four_within`, and by the definitions
+-- of `stage_bounds`, `stage_number`, `is_stored` and `next_place`.
 use borrow.Author.Rules.{rules}
 use Rattle.state.specs.Numbers.{stage_number}
 use Rattle.state.specs.Ranges.{stage_bounds, top_bounds, levels_bounds, slot_bounds, inner_bounds}
@@ -25,7 +25,8 @@ leaf_number-requires c = search rules
 
 pub inner_number-requires : goal.inner_number-requires
 unfolding stage_bounds
-inner_number-requires c = let s = c.in-Inner in
+inner_number-requires c =
+    let s = c.in-Inner in
     let ls = s.levels in
     (four_within (top_bounds s.top) (levels_bounds ls) (slot_bounds ls s.slot c.args.now) (inner_bounds ls s.first) (rw s.is at c.requires)).3
 

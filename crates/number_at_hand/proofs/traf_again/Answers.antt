@@ -1,4 +1,4 @@
--- `number_at_hand::traf_again` meets its contract, by that of `head_again`, and by the definitions of `trafNumber` and `trafBodyNumber`.
+-- `number_at_hand::traf_again` meets its contract, by that of `head_again`, and by the definitions of `traf_number` and `traf_body_number`.
 use borrow.Author.Rules.{rules}
 use Rattle.state.specs.Numbers.{traf_body_number, traf_number}
 use Rattle.number_at_hand.proofs.traf_again.Goals as goal

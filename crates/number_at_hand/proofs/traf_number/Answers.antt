@@ -1,4 +1,4 @@
--- `number_at_hand::traf_number` meets its contract, by those of `head_number` and `unstored`, and by the definitions of `trafNumber`, `isStored`, `nextPlace` and `trafBodyNumber`.
+-- `number_at_hand::traf_number` meets its contract, by those of `head_number` and `unstored`, and by the definitions of `traf_number`, `is_stored`, `next_place` and `traf_body_number`.
 use borrow.Author.Rules.{rules}
 use Rattle.state.specs.Numbers.{traf_body_number, traf_number}
 use Rattle.number_at_hand.specs.Views.{is_stored, next_place}

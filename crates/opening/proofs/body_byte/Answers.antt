@@ -1,5 +1,5 @@
--- `opening::body_byte` meets its contract, by those of `opening_skip`, `styp_byte`, `index_byte` and `opening_index`, by the laws `spelled-small`
--- and `index-step`, and by the definitions of `openingBodyBounds` and `stepOpeningBody`.
+-- `opening::body_byte` meets its contract, by those of `opening_skip`, `styp_byte`, `index_byte` and `opening_index`, by the laws `spelled_small`
+-- and `index_step`, and by the definitions of `opening_body_bounds` and `step_opening_body`.
 use mathlib.Core.Path.{subst, ◌∙◌}
 use native.Mathlib.Omega.{arith}
 use native.Mathlib.Numerals.{add-one}
@@ -13,7 +13,8 @@ use Rattle.opening.proofs.body_byte.Goals as goal
 
 pub styp_byte-requires : goal.styp_byte-requires
 unfolding opening_body_bounds
-styp_byte-requires c = let asked = c.requires in
+styp_byte-requires c =
+    let asked = c.requires in
     let w = subst (λ (q : OpeningBody). Within (opening_body_bounds q)) c.in-Styp.is asked.0 in
     (spelled_small 3 _ _ (omega arith) w, asked.1)
 

@@ -1,4 +1,4 @@
--- `opening::brands_from` meets its contract, by that of `opening_next`, and by the definition of `brandsFrom`, with what it is made of unfolded.
+-- `opening::brands_from` meets its contract, by that of `opening_next`, and by the definition of `brands_from`, with what it is made of unfolded.
 use mathlib.Core.Path.{ap, ◌∙◌}
 use borrow.Author.Tests.{eq-eqb, ne_eqb}
 use Rattle.basics.specs.Choose.{pick}

@@ -1,5 +1,5 @@
 -- `opening::gap_byte` meets its contract, by those of `head_byte`, `gap_head` and `gap_skip`, by the law `head_step`, and by the definitions of
--- `gapBounds`, `stepGap` and `stepBox`.
+-- `gap_bounds`, `step_gap` and `step_box`.
 use Prim.Native.Nat.{◌+◌}
 use mathlib.Core.Path.{ap, ◌∙◌}
 use Rattle.state.specs.Ranges.{gap_bounds}
@@ -16,7 +16,8 @@ head_byte-requires c = (rw c.in-Head.is at c.requires.0, c.requires.1)
 
 pub returns-in-Head : goal.returns-in-Head
 unfolding step_gap
-returns-in-Head c = let a = c.args in
+returns-in-Head c =
+    let a = c.args in
     λ f. rw c.in-Head.is
     (c.gap_head.ensures f ∙ ap (head_gap a.end (a.n + 1)) (c.head_byte.ensures f) ∙ head_step (gap_boxes a.end) wrap_gap tt f _ _ _)
 

@@ -1,5 +1,5 @@
--- `opening::gap_headed` meets its contract, by those of `gap_flaw` and `gap_skip`, by the laws `headed-bad`, `headed-good`, `flawless` and
--- `gap-beyond`, and by the definitions of `lift` and `lowest`.
+-- `opening::gap_headed` meets its contract, by those of `gap_flaw` and `gap_skip`, by the laws `headed_bad`, `headed_good`, `flawless` and
+-- `gap_beyond`, and by the definitions of `lift` and `lowest`.
 use mathlib.Core.Path.{sym, ◌∙◌}
 use native.Mathlib.Omega.{arith}
 use Rattle.machine.specs.Faults.{lowest}
@@ -12,13 +12,16 @@ use Rattle.opening.proofs.gap_headed.Goals as goal
 
 pub returns-then-flaw-ne0 : goal.returns-then-flaw-ne0
 unfolding lift lowest
-returns-then-flaw-ne0 c = let a = c.args in
+returns-then-flaw-ne0 c =
+    let a = c.args in
     λ f. rw (headed_bad (gap_kind a.end) a.h f a.m _ (gap_beyond a.h) c.gap_flaw-flaw.ensures c.if-flaw-ne0.true)
 
 pub overflow_add-h : goal.overflow_add-h
-overflow_add-h c = let a = c.args in
+overflow_add-h c =
+    let a = c.args in
     omega (arith, (flawless a.end a.h _ (gap_beyond a.h) (sym c.gap_flaw-flaw.ensures ∙ c.if-flaw-ne0.false)).1)
 
 pub returns : goal.returns
-returns c = let a = c.args in
+returns c =
+    let a = c.args in
     λ f. rw (headed_good (gap_kind a.end) a.h f a.m _ (gap_beyond a.h) c.gap_flaw-flaw.ensures c.if-flaw-ne0.false) (c.gap_skip.ensures f)

@@ -1,4 +1,4 @@
--- `opening::gap_next` meets its contract, by the definitions of `goOn`, `gapNext`, `pick` and `unless`.
+-- `opening::gap_next` meets its contract, by the definitions of `go_on`, `gap_next`, `pick` and `unless`.
 use borrow.Author.Tests.{eq-eqb, ne_eqb}
 use Rattle.basics.specs.Choose.{pick}
 use Rattle.machine.specs.Faults.{unless}

@@ -1,5 +1,5 @@
 -- `opening::opening_begin` meets its contract, by those of `index_begin` and `opening_skip`, by the law `skipped`, and by the definitions of
--- `beginOpening`, `lift` and `pick`.
+-- `begin_opening`, `lift` and `pick`.
 use mathlib.Core.Path.{ap, ◌∙◌}
 use borrow.Author.Tests.{eq-eqb, ne_eqb}
 use Rattle.basics.specs.Choose.{pick}
@@ -19,7 +19,8 @@ returns-then-h-eq-SIDX c = λ brand f.
     simp (c.index_begin.ensures, ne_eqb _ _ c.if-h-eq-STYP.false, eq-eqb _ _ c.if-h-eq-SIDX.true)
 
 pub returns : goal.returns
-returns c = let a = c.args in
+returns c =
+    let a = c.args in
     λ brand f.
     c.opening_skip.ensures brand f
     ∙ ap (body_opening brand a.branded _) (skipped _ f _ c.if-h-eq-STYP.false c.if-h-eq-SIDX.false)

@@ -1,5 +1,5 @@
--- `opening::opening_byte` meets its contract, by those of `head_byte`, `opening_head` and `body_byte`, by the laws `head_step` and `body-step`, and by
--- the definitions of `openingBounds` and `stepOpening`.
+-- `opening::opening_byte` meets its contract, by those of `head_byte`, `opening_head` and `body_byte`, by the laws `head_step` and `body_step`, and by
+-- the definitions of `opening_bounds` and `step_opening`.
 use Prim.Native.Nat.{◌+◌}
 use mathlib.Core.Path.{ap, ◌∙◌}
 use Rattle.state.specs.Calls.{flow_of}
@@ -15,12 +15,14 @@ head_byte-requires c = let asked = c.requires in (rw c.in-Head.is at asked.0, as
 
 pub body_byte-requires : goal.body_byte-requires
 unfolding opening_bounds
-body_byte-requires c = let asked = c.requires in
+body_byte-requires c =
+    let asked = c.requires in
     (rw c.in-Body.is at asked.0, asked.1, asked.2)
 
 pub returns-in-Head : goal.returns-in-Head
 unfolding step_opening
-returns-in-Head c = let a = c.args in
+returns-in-Head c =
+    let a = c.args in
     λ leaves at last table.
     let f = flow_of leaves at last _ table in
     rw c.in-Head.is

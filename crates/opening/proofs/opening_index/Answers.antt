@@ -1,4 +1,4 @@
--- `opening::opening_index` meets its contract, by that of `refused_index`, and by the definitions of `lift`, `lowest`, `goOn`, `closeOpening` and
+-- `opening::opening_index` meets its contract, by that of `refused_index`, and by the definitions of `lift`, `lowest`, `go_on`, `close_opening` and
 -- `unless`.
 use Rattle.machine.specs.Faults.{lowest, unless}
 use Rattle.machine.specs.Run.{lift}

@@ -1,4 +1,4 @@
--- `opening::opening_skip` meets its contract, by that of `opening_next`, and by the definitions of `lift`, `goOn`, `closeOpening`, `pick` and `unless`.
+-- `opening::opening_skip` meets its contract, by that of `opening_next`, and by the definitions of `lift`, `go_on`, `close_opening`, `pick` and `unless`.
 use mathlib.Core.Path.{ap, ◌∙◌}
 use borrow.Author.Tests.{le-leb, lt-leb}
 use Rattle.basics.specs.Choose.{pick}

@@ -1,4 +1,4 @@
--- `opening::styp_end` meets its contract, by those of `brands_from` and `found`, and by the definitions of `stypEnds` and `lift`.
+-- `opening::styp_end` meets its contract, by those of `brands_from` and `found`, and by the definitions of `styp_ends` and `lift`.
 use Rattle.machine.specs.Run.{lift}
 use Rattle.state.specs.Opening.{styp_ends}
 use Rattle.opening.proofs.styp_end.Goals as goal

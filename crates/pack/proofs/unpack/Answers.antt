@@ -1,4 +1,4 @@
--- `pack::unpack` meets its contract, by those of `state_of`, `numbers_of`, `same_numbers` and `in_range`, and by the law `unpack-length`.
+-- `pack::unpack` meets its contract, by those of `state_of`, `numbers_of`, `same_numbers` and `in_range`, and by the law `unpack_length`.
 use mathlib.Core.Path.{◌≡◌, sym, ap, ◌∙◌}
 use mathlib.Core.Bool.{true, false}
 use Rattle.basics.specs.Choose.{pick}

@@ -1,4 +1,4 @@
--- `pack::write_over` meets its contract: what was written stands before what was there, by the laws `over-more` and `over-all`.
+-- `pack::write_over` meets its contract: what was written stands before what was there, by the laws `over_more` and `over_all`.
 use Prim.Native.Nat.{ℕ, ◌-◌, ◌≤◌}
 use mathlib.Core.Path.{◌≡◌, refl, sym, ap, ◌∙◌}
 use mathlib.Core.List.{◌++◌}

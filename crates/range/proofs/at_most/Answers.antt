@@ -1,4 +1,4 @@
--- `range::at_most` meets its contract, by the laws `first-fails` and `one_holds`.
+-- `range::at_most` meets its contract, by the laws `first_fails` and `one_holds`.
 use mathlib.Core.List.{[]}
 use native.Mathlib.Omega.{arith}
 use Rattle.range.proofs.Joined.{first_fails, one_holds}

@@ -1,4 +1,4 @@
--- `range::draft_fits` meets its contract, by those of `less`, `at_most` and `both`, and by the laws `joined` and `joined-first`.
+-- `range::draft_fits` meets its contract, by those of `less`, `at_most` and `both`, and by the laws `joined` and `joined_first`.
 use Rattle.range.proofs.Joined.{joined, joined_first}
 use borrow.Author.Rules.{rules}
 use Rattle.range.proofs.draft_fits.Goals as goal

@@ -1,4 +1,4 @@
--- `range::durations_summed` meets its contract, by the definition of `durationsRead`.
+-- `range::durations_summed` meets its contract, by the definition of `durations_read`.
 use native.Mathlib.Numerals.{add-one}
 use Rattle.state.specs.Ranges.{durations_read}
 use borrow.Author.Rules.{rules}

@@ -1,4 +1,4 @@
--- `range::four_fit` meets its contract, by those of `at_most`, `both` and `level_fits`, by the laws `joined` and `joined-first`, and by the definition of `levelsBounds`.
+-- `range::four_fit` meets its contract, by those of `at_most`, `both` and `level_fits`, by the laws `joined` and `joined_first`, and by the definition of `levels_bounds`.
 use Rattle.state.specs.Ranges.{levels_bounds}
 use Rattle.range.proofs.Joined.{joined, joined_first}
 use borrow.Author.Rules.{rules}

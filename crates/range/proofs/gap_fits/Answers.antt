@@ -1,4 +1,4 @@
--- `range::gap_fits` meets its contract, by that of `head_fits`, by the law `all-of-none`, and by the definition of `gapBounds`.
+-- `range::gap_fits` meets its contract, by that of `head_fits`, by the law `all_of_none`, and by the definition of `gap_bounds`.
 use Rattle.state.specs.Ranges.{gap_bounds}
 use Rattle.range.proofs.Joined.{all_of_none}
 use borrow.Author.Rules.{rules}

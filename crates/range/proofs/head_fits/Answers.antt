@@ -1,4 +1,4 @@
--- `range::head_fits` meets its contract, by that of `head_number_fits`, by the law `all-of-none`, and by the definition of `headBounds`.
+-- `range::head_fits` meets its contract, by that of `head_number_fits`, by the law `all_of_none`, and by the definition of `head_bounds`.
 use Rattle.state.specs.Ranges.{head_bounds}
 use Rattle.range.proofs.Joined.{all_of_none}
 use borrow.Author.Rules.{rules}

@@ -1,4 +1,4 @@
--- `range::index_most` meets its contract, by that of `wide_most`, and by the definition of `indexMost`.
+-- `range::index_most` meets its contract, by that of `wide_most`, and by the definition of `index_most`.
 use Rattle.state.specs.Ranges.{index_most}
 use borrow.Author.Rules.{rules}
 use Rattle.range.proofs.index_most.Goals as goal

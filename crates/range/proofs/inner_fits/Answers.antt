@@ -1,4 +1,4 @@
--- `range::inner_fits` meets its contract, by those of `head_fits`, `depth`, `less`, `sidx_fits` and `both`, by the laws `joined` and `joined-first`, and by the definition of `innerBounds`.
+-- `range::inner_fits` meets its contract, by those of `head_fits`, `depth`, `less`, `sidx_fits` and `both`, by the laws `joined` and `joined_first`, and by the definition of `inner_bounds`.
 use Rattle.state.specs.Ranges.{inner_bounds}
 use Rattle.range.proofs.Joined.{joined, joined_first}
 use borrow.Author.Rules.{rules}

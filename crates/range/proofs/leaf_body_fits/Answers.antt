@@ -1,4 +1,4 @@
--- `range::leaf_body_fits` meets its contract, by that of `moof_fits`, by the law `all-of-none`, and by the definition of `leafBodyBounds`.
+-- `range::leaf_body_fits` meets its contract, by that of `moof_fits`, by the law `all_of_none`, and by the definition of `leaf_body_bounds`.
 use Rattle.state.specs.Ranges.{leaf_body_bounds}
 use Rattle.range.proofs.Joined.{all_of_none}
 use borrow.Author.Rules.{rules}

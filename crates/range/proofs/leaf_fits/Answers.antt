@@ -1,4 +1,4 @@
--- `range::leaf_fits` meets its contract, by those of `head_fits` and `leaf_body_fits`, and by the definition of `leafBounds`.
+-- `range::leaf_fits` meets its contract, by those of `head_fits` and `leaf_body_fits`, and by the definition of `leaf_bounds`.
 use Rattle.state.specs.Ranges.{leaf_bounds}
 use borrow.Author.Rules.{rules}
 use Rattle.range.proofs.leaf_fits.Goals as goal

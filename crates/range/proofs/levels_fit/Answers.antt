@@ -1,4 +1,4 @@
--- `range::levels_fit` meets its contract, by those of `level_fits`, `two_fit`, `three_fit` and `four_fit`, and by the definition of `levelsBounds`.
+-- `range::levels_fit` meets its contract, by those of `level_fits`, `two_fit`, `three_fit` and `four_fit`, and by the definition of `levels_bounds`.
 use Rattle.state.specs.Ranges.{levels_bounds}
 use borrow.Author.Rules.{rules}
 use Rattle.range.proofs.levels_fit.Goals as goal

@@ -1,4 +1,4 @@
--- `range::moof_body_fits` meets its contract, by that of `traf_fits`, by the law `all-of-none`, and by the definition of `moofBodyBounds`.
+-- `range::moof_body_fits` meets its contract, by that of `traf_fits`, by the law `all_of_none`, and by the definition of `moof_body_bounds`.
 use Rattle.state.specs.Ranges.{moof_body_bounds}
 use Rattle.range.proofs.Joined.{all_of_none}
 use borrow.Author.Rules.{rules}

@@ -1,4 +1,4 @@
--- `range::moof_fits` meets its contract, by those of `head_fits` and `moof_body_fits`, and by the definition of `moofBounds`.
+-- `range::moof_fits` meets its contract, by those of `head_fits` and `moof_body_fits`, and by the definition of `moof_bounds`.
 use Rattle.state.specs.Ranges.{moof_bounds}
 use borrow.Author.Rules.{rules}
 use Rattle.range.proofs.moof_fits.Goals as goal

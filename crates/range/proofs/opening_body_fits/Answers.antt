@@ -1,4 +1,4 @@
--- `range::opening_body_fits` meets its contract, by those of `spelling_fits` and `sidx_fits`, by the law `all-of-none`, and by the definition of `openingBodyBounds`.
+-- `range::opening_body_fits` meets its contract, by those of `spelling_fits` and `sidx_fits`, by the law `all_of_none`, and by the definition of `opening_body_bounds`.
 use Rattle.state.specs.Ranges.{opening_body_bounds}
 use Rattle.range.proofs.Joined.{all_of_none}
 use borrow.Author.Rules.{rules}

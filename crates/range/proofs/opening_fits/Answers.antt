@@ -1,4 +1,4 @@
--- `range::opening_fits` meets its contract, by those of `head_fits` and `opening_body_fits`, and by the definition of `openingBounds`.
+-- `range::opening_fits` meets its contract, by those of `head_fits` and `opening_body_fits`, and by the definition of `opening_bounds`.
 use Rattle.state.specs.Ranges.{opening_bounds}
 use borrow.Author.Rules.{rules}
 use Rattle.range.proofs.opening_fits.Goals as goal

@@ -1,4 +1,4 @@
--- `range::scale_least` meets its contract, by the definition of `scaleLeast`.
+-- `range::scale_least` meets its contract, by the definition of `scale_least`.
 use Rattle.state.specs.Ranges.{scale_least}
 use borrow.Author.Rules.{rules}
 use Rattle.range.proofs.scale_least.Goals as goal

@@ -1,5 +1,5 @@
--- `range::sidx_fits` meets its contract, by those of `index_most`, `scale_least`, `draft_fits`, `spelling_fits`, `both` and `sums_fit`, by the laws `joined` and `index-low`, and by the
--- definition of `sidxBounds`.
+-- `range::sidx_fits` meets its contract, by those of `index_most`, `scale_least`, `draft_fits`, `spelling_fits`, `both` and `sums_fit`, by the laws `joined` and `index_low`, and by the
+-- definition of `sidx_bounds`.
 use Rattle.state.specs.Ranges.{sidx_bounds}
 use Rattle.range.proofs.Joined.{joined, index_low}
 use borrow.Author.Rules.{rules}

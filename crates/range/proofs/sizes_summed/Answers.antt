@@ -1,4 +1,4 @@
--- `range::sizes_summed` meets its contract, by the definition of `sizesRead`.
+-- `range::sizes_summed` meets its contract, by the definition of `sizes_read`.
 use native.Mathlib.Numerals.{add-one}
 use Rattle.state.specs.Ranges.{sizes_read}
 use borrow.Author.Rules.{rules}

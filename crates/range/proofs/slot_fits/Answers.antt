@@ -1,4 +1,4 @@
--- `range::slot_fits` meets its contract, by those of `inmost`, `at_most` and `both`, and by the laws `joined` and `joined-first`.
+-- `range::slot_fits` meets its contract, by those of `inmost`, `at_most` and `both`, and by the laws `joined` and `joined_first`.
 use Rattle.range.proofs.Joined.{joined, joined_first}
 use borrow.Author.Rules.{rules}
 use Rattle.range.proofs.slot_fits.Goals as goal

@@ -1,4 +1,4 @@
--- `range::spelling_fits` meets its contract, by those of `power` and `less`, and by the laws `first_holds` and `first-fails`.
+-- `range::spelling_fits` meets its contract, by those of `power` and `less`, and by the laws `first_holds` and `first_fails`.
 use Prim.Native.Nat.{ℕ}
 use mathlib.Core.Path.{ap, ◌∙◌}
 use mathlib.Core.List.{[], ◌∷◌}
@@ -11,7 +11,8 @@ pub returns-then-most-more : goal.returns-then-most-more
 returns-then-most-more c = first_fails c.args.more c.args.most _ (omega arith)
 
 pub returns : goal.returns
-returns c = let a = c.args in
+returns c =
+    let a = c.args in
     c.less.ensures
     ∙ ap (λ (p : ℕ). within (below a.acc p ∷ [])) c.power.ensures
     ∙ first_holds a.more a.most _ (omega arith)

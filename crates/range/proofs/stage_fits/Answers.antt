@@ -1,5 +1,5 @@
 -- `range::stage_fits` meets its contract, by those of `opening_fits`, `gap_stage_fits`, `nested_fits`, `next_entry_fits`, `both`, `slot_fits`, `leaf_fits` and `inner_fits`, by the law
--- `joined`, and by the definition of `stageBounds`.
+-- `joined`, and by the definition of `stage_bounds`.
 use Rattle.state.specs.Ranges.{stage_bounds}
 use Rattle.range.proofs.Joined.{joined}
 use borrow.Author.Rules.{rules}

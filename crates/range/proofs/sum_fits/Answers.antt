@@ -1,4 +1,4 @@
--- `range::sum_fits` meets its contract, by the laws `first-fails` and `one_holds`.
+-- `range::sum_fits` meets its contract, by the laws `first_fails` and `one_holds`.
 use Prim.Native.Nat.{suc, ◌+◌}
 use mathlib.Core.List.{[]}
 use native.Mathlib.Omega.{arith}

@@ -1,5 +1,5 @@
--- `range::sums_fit` meets its contract, by those of `sizes_summed`, `durations_summed`, `at_most` and `both`, and by the laws `first_holds`, `first-fails`, `joined`, `sizes-read-low` and
--- `durations-read-low`.
+-- `range::sums_fit` meets its contract, by those of `sizes_summed`, `durations_summed`, `at_most` and `both`, and by the laws `first_holds`, `first_fails`, `joined`, `sizes_read_low` and
+-- `durations_read_low`.
 use Prim.Native.Nat.{ℕ, suc, ◌*◌}
 use mathlib.Core.Path.{ap, ◌∙◌}
 use mathlib.Core.List.{[], ◌∷◌}
@@ -13,12 +13,14 @@ pub returns-then-s : goal.returns-then-s
 returns-then-s c = first_fails (suc c.args.s.next) c.args.s.count _ (omega arith)
 
 pub returns-then-s-gt-MOST_ENTRIES : goal.returns-then-s-gt-MOST_ENTRIES
-returns-then-s-gt-MOST_ENTRIES c = let a = c.args in
+returns-then-s-gt-MOST_ENTRIES c =
+    let a = c.args in
     first_fails a.s.count most_entries _ (omega arith)
     ∙ first_holds (suc a.s.next) a.s.count _ (omega arith)
 
 pub overflow_mul-sizes : goal.overflow_mul-sizes
-overflow_mul-sizes c = let a = c.args in
+overflow_mul-sizes c =
+    let a = c.args in
     omega (
       arith,
       c.sizes_summed-sizes.ensures,
@@ -26,7 +28,8 @@ overflow_mul-sizes c = let a = c.args in
     )
 
 pub overflow_mul-durations : goal.overflow_mul-durations
-overflow_mul-durations c = let a = c.args in
+overflow_mul-durations c =
+    let a = c.args in
     omega (
       arith,
       c.durations_summed-durations.ensures,
@@ -34,7 +37,8 @@ overflow_mul-durations c = let a = c.args in
     )
 
 pub returns : goal.returns
-returns c = let a = c.args in
+returns c =
+    let a = c.args in
     let sizes = c.at_most.ensures ∙ ap (λ (m : ℕ). within (at_most a.s.sizes (type_bit * m) ∷ [])) c.sizes_summed-sizes.ensures in
     let durations = c.at_most-2.ensures ∙ ap (λ (m : ℕ). within (at_most a.s.durations (word_limit * m) ∷ [])) c.durations_summed-durations.ensures in
     joined _ _ c.both.ensures sizes durations

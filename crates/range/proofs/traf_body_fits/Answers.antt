@@ -1,4 +1,4 @@
--- `range::traf_body_fits` meets its contract, by those of `traf_most` and `spelling_fits`, by the laws `all-of-none` and `traf-low`, and by the definition of `trafBodyBounds`.
+-- `range::traf_body_fits` meets its contract, by those of `traf_most` and `spelling_fits`, by the laws `all_of_none` and `traf_low`, and by the definition of `traf_body_bounds`.
 use Rattle.state.specs.Ranges.{traf_body_bounds}
 use Rattle.range.proofs.Joined.{all_of_none, traf_low}
 use borrow.Author.Rules.{rules}

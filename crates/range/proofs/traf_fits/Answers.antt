@@ -1,4 +1,4 @@
--- `range::traf_fits` meets its contract, by those of `head_fits` and `traf_body_fits`, and by the definition of `trafBounds`.
+-- `range::traf_fits` meets its contract, by those of `head_fits` and `traf_body_fits`, and by the definition of `traf_bounds`.
 use Rattle.state.specs.Ranges.{traf_bounds}
 use borrow.Author.Rules.{rules}
 use Rattle.range.proofs.traf_fits.Goals as goal

@@ -1,4 +1,4 @@
--- `range::traf_most` meets its contract, by the definition of `trafMost`.
+-- `range::traf_most` meets its contract, by the definition of `traf_most`.
 use Rattle.state.specs.Ranges.{traf_most}
 use borrow.Author.Rules.{rules}
 use Rattle.range.proofs.traf_most.Goals as goal

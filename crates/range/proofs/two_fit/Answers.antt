@@ -1,4 +1,4 @@
--- `range::two_fit` meets its contract, by those of `level_fits`, `at_most` and `both`, by the laws `joined` and `joined-first`, and by the definition of `levelsBounds`.
+-- `range::two_fit` meets its contract, by those of `level_fits`, `at_most` and `both`, by the laws `joined` and `joined_first`, and by the definition of `levels_bounds`.
 use Rattle.state.specs.Ranges.{levels_bounds}
 use Rattle.range.proofs.Joined.{joined, joined_first}
 use borrow.Author.Rules.{rules}

@@ -1,4 +1,4 @@
--- `range::wide_most` meets its contract, by the definition of `wideMore`.
+-- `range::wide_most` meets its contract, by the definition of `wide_more`.
 use Rattle.state.specs.Sidx.{wide_more}
 use borrow.Author.Rules.{rules}
 use Rattle.range.proofs.wide_most.Goals as goal

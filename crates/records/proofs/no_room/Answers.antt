@@ -1,4 +1,4 @@
--- `records::no_room` meets its contract, by the laws `room-over` and `room_by`.
+-- `records::no_room` meets its contract, by the laws `room_over` and `room_by`.
 use mathlib.Core.Path.{sym, ap, ◌∙◌}
 use Rattle.records.proofs.Laws.{room_over, room_by}
 use Rattle.records.proofs.no_room.Goals as goal

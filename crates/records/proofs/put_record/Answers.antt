@@ -1,4 +1,4 @@
--- `records::put_record` meets its contract, by the law `record-put`; a store leaves the table as long as it was.
+-- `records::put_record` meets its contract, by the law `record_put`; a store leaves the table as long as it was.
 use native.Mathlib.Omega.{arith}
 use lib.ListN.{length-set}
 use Rattle.records.proofs.Laws.{record_put}

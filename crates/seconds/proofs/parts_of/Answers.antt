@@ -1,4 +1,4 @@
--- `seconds::parts_of` meets its contract, by the laws `a-number`, `no_number`, `split-zero`, `split-none`, `split-subnormal` and `split-normal`: one for
+-- `seconds::parts_of` meets its contract, by the laws `a_number`, `no_number`, `split_zero`, `split_none`, `split_subnormal` and `split_normal`: one for
 -- each way out.
 use Rattle.seconds.proofs.Laws.{a_number, no_number, split_zero, split_none, split_subnormal, split_normal}
 use Rattle.seconds.proofs.parts_of.Goals as goal

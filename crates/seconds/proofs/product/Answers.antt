@@ -1,4 +1,4 @@
--- `seconds::product` meets its contract, by the law `by-halves` and by bounds of the two products.
+-- `seconds::product` meets its contract, by the law `by_halves` and by bounds of the two products.
 use Prim.Native.Nat.{ℕ, ◌*◌, ◌/◌, ◌%◌, ◌≤◌}
 use native.Mathlib.Omega.{arith}
 use native.Mathlib.Nat.{mul-le-mul}
@@ -19,7 +19,8 @@ pub overflow_mul-upper : goal.overflow_mul-upper
 overflow_mul-upper c = let a = c.args in omega (arith, upper-most a.digits a.scale (omega arith) (omega arith))
 
 pub overflow_add-upper : goal.overflow_add-upper
-overflow_add-upper c = let a = c.args in
+overflow_add-upper c =
+    let a = c.args in
     omega (arith, lower-most a.digits a.scale (omega arith), upper-most a.digits a.scale (omega arith) (omega arith))
 
 pub returns : goal.returns

@@ -1,4 +1,4 @@
--- `traf::body_begin` meets its contract, by that of `skip_to`, by the law `pick_no`, and by the definitions of `beginTraf` and `pick`.
+-- `traf::body_begin` meets its contract, by that of `skip_to`, by the law `pick_no`, and by the definitions of `begin_traf` and `pick`.
 use mathlib.Core.Path.{sym, ◌∙◌}
 use borrow.Author.Tests.{eq-eqb, ne_eqb}
 use Rattle.basics.specs.Choose.{pick}

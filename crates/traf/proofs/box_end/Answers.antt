@@ -1,4 +1,4 @@
--- `traf::box_end` meets its contract, by those of `go_on` and `time_end`, and by the definitions of `trafNow` and `fallFaults`.
+-- `traf::box_end` meets its contract, by those of `go_on` and `time_end`, and by the definitions of `traf_now` and `fall_faults`.
 use Rattle.state.specs.Traf.{traf_now, fall_faults}
 use Rattle.traf.proofs.box_end.Goals as goal
 

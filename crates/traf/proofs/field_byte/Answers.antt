@@ -1,5 +1,5 @@
--- `traf::field_byte` meets its contract, by those of `spelled` and `field_end`, by the laws `field-small` and `one_fewer`, and by the definition
--- of `stepTrafBody`.
+-- `traf::field_byte` meets its contract, by those of `spelled` and `field_end`, by the laws `field_small` and `one_fewer`, and by the definition
+-- of `step_traf_body`.
 use Prim.Native.Nat.{◌+◌, ◌*◌}
 use mathlib.Core.Path.{refl}
 use Rattle.machine.specs.Run.{go}
@@ -19,6 +19,7 @@ returns-then-more-eq0 c = λ f. rw (c.if-more-eq0.true, ← add-one c.args.n, �
 
 pub returns : goal.returns
 unfolding step_traf_body
-returns c = let a = c.args in
+returns c =
+    let a = c.args in
     λ f. rw c.spelled-v.ensures
     (one_fewer (λ m. step_traf_body a.id a.t (body.Field a.p m a.acc) f a.n a.b) (λ m. go (body.Field a.p m (a.acc * 256 + a.b)) f) (λ m. refl) a.more c.if-more-eq0.false)

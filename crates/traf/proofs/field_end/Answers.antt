@@ -1,5 +1,5 @@
--- `traf::field_end` meets its contract, by those of `rest_to`, `version_end`, `time_more` and `is_reference`, by the law `time-flags`, and by the
--- definition of `trafEnds`.
+-- `traf::field_end` meets its contract, by those of `rest_to`, `version_end`, `time_more` and `is_reference`, by the law `time_flags`, and by the
+-- definition of `traf_ends`.
 use Rattle.state.specs.Traf.{traf_ends}
 use Rattle.traf.proofs.Laws.{time_flags}
 use Rattle.traf.proofs.field_end.Goals as goal

@@ -1,4 +1,4 @@
--- `traf::go_on` meets its contract, by that of `is_timed`, by the laws `lacks-none` and `lacks-one`, and by the definitions of `goOn`, `trafNext`,
+-- `traf::go_on` meets its contract, by that of `is_timed`, by the laws `lacks_none` and `lacks_one`, and by the definitions of `go_on`, `traf_next`,
 -- `unless`, `pick` and `lowest`.
 use mathlib.Core.Path.{sym, ◌∙◌}
 use borrow.Author.Tests.{eq-eqb, ne_eqb}
@@ -15,10 +15,12 @@ returns-then-n-span c = λ id f. simp (ne_eqb _ _ c.if-n-span.true)
 
 pub returns-then-is_timed : goal.returns-then-is_timed
 unfolding go_on traf_next unless pick
-returns-then-is_timed c = let a = c.args in
+returns-then-is_timed c =
+    let a = c.args in
     λ id f. simp (eq-eqb _ _ c.if-n-span.false, lacks_none a.span.pos a.so.track (sym c.is_timed.ensures ∙ c.if-is_timed.true))
 
 pub returns : goal.returns
 unfolding go_on traf_next unless pick lowest
-returns c = let a = c.args in
+returns c =
+    let a = c.args in
     λ id f. simp (eq-eqb _ _ c.if-n-span.false, lacks_one a.span.pos a.so.track (sym c.is_timed.ensures ∙ c.if-is_timed.false))

@@ -1,4 +1,4 @@
--- `traf::is_timed` meets its contract, by the definition of `timedTrack`.
+-- `traf::is_timed` meets its contract, by the definition of `timed_track`.
 use mathlib.Core.Path.{ap, sym}
 use Rattle.traf.specs.Views.{timed_track}
 use Rattle.traf.proofs.is_timed.Goals as goal

@@ -1,5 +1,5 @@
 -- `traf::traf_byte` meets its contract, by those of `head_byte`, `after_head`, `body_byte` and `after_body`, by the laws `head_step` and
--- `body-step`, and by the definitions of `trafBounds` and `stepTraf`.
+-- `body_step`, and by the definitions of `traf_bounds` and `step_traf`.
 use mathlib.Core.Path.{ap, ◌∙◌}
 use Rattle.state.specs.Ranges.{traf_bounds}
 use Rattle.header.specs.Views.{after_head, after_body}
@@ -17,12 +17,14 @@ body_byte-r-requires c = record { n_lt_limit = c.requires.1; within = rw c.in-Bo
 
 pub returns-in-Head : goal.returns-in-Head
 unfolding step_traf
-returns-in-Head c = let l = traf_boxes c.args.id c.args.span in
+returns-in-Head c =
+    let l = traf_boxes c.args.id c.args.span in
     λ f. rw c.in-Head.is
     (c.after_head.ensures _ f ∙ ap (after_head l wrap_traf _ _) (c.head_byte-r.ensures f) ∙ head_step l wrap_traf _ f _ _ _)
 
 pub returns-in-Body : goal.returns-in-Body
 unfolding step_traf
-returns-in-Body c = let l = traf_boxes c.args.id c.args.span in
+returns-in-Body c =
+    let l = traf_boxes c.args.id c.args.span in
     λ f. rw c.in-Body.is
     (c.after_body.ensures _ f ∙ ap (after_body l wrap_traf _ _) (c.body_byte-r.ensures f) ∙ body_step l wrap_traf _ f _ _ _)

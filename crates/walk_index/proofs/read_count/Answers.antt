@@ -15,14 +15,16 @@ pub overflow_mul-count : goal.overflow_mul-count
 overflow_mul-count c = omega (arith, field_small 2 c.in-Read.is c.read_field-got.ensures.1)
 
 pub overflow_add-next : goal.overflow_add-next
-overflow_add-next c = let a = c.args in
+overflow_add-next c =
+    let a = c.args in
     let whole = field_in a.bytes.now a.at 2 _ _ (sym c.read_field-got.ensures.0 ∙ c.in-Read.is) in
     omega (arith, field_small 2 c.in-Read.is c.read_field-got.ensures.1)
 
 -- the entries do not end the box
 pub returns-then-end-next : goal.returns-then-end-next
 unfolding fields_d
-returns-then-end-next c = let a = c.args in
+returns-then-end-next c =
+    let a = c.args in
     let whole = field_in a.bytes.now a.at 2 _ _ (sym c.read_field-got.ensures.0 ∙ c.in-Read.is) in
     rw c.stop_at.ensures (
       λ p wide base f i there here.
@@ -33,7 +35,8 @@ returns-then-end-next c = let a = c.args in
 -- none, or too many
 pub returns-then-no_count : goal.returns-then-no_count
 unfolding fields_d
-returns-then-no_count c = let a = c.args in
+returns-then-no_count c =
+    let a = c.args in
     let whole = field_in a.bytes.now a.at 2 _ _ (sym c.read_field-got.ensures.0 ∙ c.in-Read.is) in
     rw c.stop_at-then-no_count.ensures (
       λ p wide base f i there here.
@@ -44,7 +47,8 @@ returns-then-no_count c = let a = c.args in
 
 pub returns : goal.returns
 unfolding fields_d
-returns c = let a = c.args in
+returns c =
+    let a = c.args in
     let some = sym c.no_count.ensures ∙ c.if-no_count.false in
     let whole = field_in a.bytes.now a.at 2 _ _ (sym c.read_field-got.ensures.0 ∙ c.in-Read.is) in (
       λ p wide base f i there here.

@@ -1,4 +1,4 @@
--- `walk_index::read_entry` meets its contract, by those of `copy_word`, `word_at` and `copy_two`, and by the laws `entry-refused` and `entry-taken`.
+-- `walk_index::read_entry` meets its contract, by those of `copy_word`, `word_at` and `copy_two`, and by the laws `entry_refused` and `entry_taken`.
 use Prim.Native.Nat.{ℕ, ◌+◌, ◌%◌}
 use mathlib.Core.Path.{◌≡◌, ap, ◌∙◌}
 use mathlib.Core.List.{List}
@@ -12,17 +12,20 @@ use Rattle.walk_index.proofs.Walks.{entry_refused, entry_taken}
 use Rattle.walk_index.proofs.read_entry.Goals as goal
 
 pub returns-then-word-eq0 : goal.returns-then-word-eq0
-returns-then-word-eq0 c = let a = c.args in
+returns-then-word-eq0 c =
+    let a = c.args in
     let none : number_at 4 a.bytes.now a.j % type_bit ≡ 0 = omega (arith, c.word_at-word.ensures.0) in
     entry_refused a.bytes.now a.i a.j a.work.now _ c.copy_word.ensures (omega arith) (eq-eqb _ _ none)
 
 pub returns-then-word-eq-TYPE_BIT : goal.returns-then-word-eq-TYPE_BIT
-returns-then-word-eq-TYPE_BIT c = let a = c.args in
+returns-then-word-eq-TYPE_BIT c =
+    let a = c.args in
     let none : number_at 4 a.bytes.now a.j % type_bit ≡ 0 = omega (arith, c.word_at-word.ensures.0) in
     entry_refused a.bytes.now a.i a.j a.work.now _ c.copy_word.ensures (omega arith) (eq-eqb _ _ none)
 
 pub returns : goal.returns
-returns c = let a = c.args in
+returns c =
+    let a = c.args in
     let s = a.bytes.now in
     let both : List ℕ → List ℕ = λ (w : List ℕ). put_all (put_all w (a.i + 4) (take 4 (drop (a.j + 4) s))) (a.i + 4 + 4) (take 4 (drop (a.j + 4 + 4) s)) in
     entry_taken s a.i a.j a.work.now _ _ _ (c.copy_two.ensures ∙ ap both c.copy_word.ensures) c.requires.1

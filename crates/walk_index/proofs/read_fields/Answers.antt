@@ -14,14 +14,16 @@ unfolding fields_d sidx_d
 returns-in_default c = (λ p base f hp hn. sym (read_out base _ f _ _ _ c.read_field-got.ensures.0 c.requires.3 c.in_default.is), tt)
 
 pub too_short-requires : goal.too_short-requires
-too_short-requires c = let a = c.args in
+too_short-requires c =
+    let a = c.args in
     let whole = field_in a.bytes.now a.at 1 _ _ (sym c.read_field-got.ensures.0 ∙ c.in-Read.is) in
     omega arith
 
 -- too short for 64-bit numbers
 pub returns-then-too_short : goal.returns-then-too_short
 unfolding fields_d sidx_d
-returns-then-too_short c = let a = c.args in
+returns-then-too_short c =
+    let a = c.args in
     let whole = field_in a.bytes.now a.at 1 _ _ (sym c.read_field-got.ensures.0 ∙ c.in-Read.is) in
     rw c.stop_at.ensures (
       λ p base f hp hn.
@@ -33,7 +35,8 @@ returns-then-too_short c = let a = c.args in
 -- a version above 1
 pub returns-then-version-gt1 : goal.returns-then-version-gt1
 unfolding fields_d sidx_d
-returns-then-version-gt1 c = let a = c.args in
+returns-then-version-gt1 c =
+    let a = c.args in
     let whole = field_in a.bytes.now a.at 1 _ _ (sym c.read_field-got.ensures.0 ∙ c.in-Read.is) in
     rw c.stop_at-then-version-gt1.ensures (
       λ p base f hp hn.
@@ -43,18 +46,21 @@ returns-then-version-gt1 c = let a = c.args in
     )
 
 pub overflow_add-next : goal.overflow_add-next
-overflow_add-next c = let a = c.args in
+overflow_add-next c =
+    let a = c.args in
     let whole = field_in a.bytes.now a.at 1 _ _ (sym c.read_field-got.ensures.0 ∙ c.in-Read.is) in
     omega arith
 
 pub read_ids-requires : goal.read_ids-requires
-read_ids-requires c = let a = c.args in
+read_ids-requires c =
+    let a = c.args in
     let whole = field_in a.bytes.now a.at 1 _ _ (sym c.read_field-got.ensures.0 ∙ c.in-Read.is) in
     (omega arith, c.requires.2, omega arith)
 
 pub returns : goal.returns
 unfolding sidx_d
-returns c = let a = c.args in
+returns c =
+    let a = c.args in
     let whole = field_in a.bytes.now a.at 1 _ _ (sym c.read_field-got.ensures.0 ∙ c.in-Read.is) in (
       λ p base f hp hn.
           rw (← whole.value) (c.read_ids.ensures.0 p base f _ hp hn refl whole.inside

@@ -16,7 +16,8 @@ returns-in_default c = (λ p base f i hp hn there here. sym (no_id_there _ _ _ _
 -- another reference ID
 pub returns-then-differs : goal.returns-then-differs
 unfolding fields_d
-returns-then-differs c = let a = c.args in
+returns-then-differs c =
+    let a = c.args in
     let whole = field_in a.bytes.now a.at 4 _ _ (sym c.read_field-got.ensures.0 ∙ c.in-Read.is) in
     rw c.stop_at.ensures (
       λ p base f i hp hn there here.
@@ -26,14 +27,16 @@ returns-then-differs c = let a = c.args in
     )
 
 pub read_field-more-requires : goal.read_field-more-requires
-read_field-more-requires c = let a = c.args in
+read_field-more-requires c =
+    let a = c.args in
     let whole = field_in a.bytes.now a.at 4 _ _ (sym c.read_field-got.ensures.0 ∙ c.in-Read.is) in
     (refl, omega arith)
 
 -- the bytes end before the timescale
 pub returns-in_default-more : goal.returns-in_default-more
 unfolding fields_d
-returns-in_default-more c = let a = c.args in
+returns-in_default-more c =
+    let a = c.args in
     let whole = field_in a.bytes.now a.at 4 _ _ (sym c.read_field-got.ensures.0 ∙ c.in-Read.is) in (
       λ p base f i hp hn there here.
           sym (past_id p base _ _ _ f _ _ _ _ i c.in-Read.is here c.read_field-got.ensures.0 there
@@ -45,7 +48,8 @@ returns-in_default-more c = let a = c.args in
 -- timescale 0
 pub returns-then-scale-eq0 : goal.returns-then-scale-eq0
 unfolding fields_d
-returns-then-scale-eq0 c = let a = c.args in
+returns-then-scale-eq0 c =
+    let a = c.args in
     let whole = field_in a.bytes.now a.at 4 _ _ (sym c.read_field-got.ensures.0 ∙ c.in-Read.is) in
     let whole2 = field_in a.bytes.now _ 4 _ _ (sym c.read_field-more.ensures.0 ∙ c.in-Read-more.is) in
     rw c.stop_at-then-scale-eq0.ensures (
@@ -60,7 +64,8 @@ returns-then-scale-eq0 c = let a = c.args in
 -- another timescale
 pub returns-then-differs-2 : goal.returns-then-differs-2
 unfolding fields_d
-returns-then-differs-2 c = let a = c.args in
+returns-then-differs-2 c =
+    let a = c.args in
     let whole = field_in a.bytes.now a.at 4 _ _ (sym c.read_field-got.ensures.0 ∙ c.in-Read.is) in
     let whole2 = field_in a.bytes.now _ 4 _ _ (sym c.read_field-more.ensures.0 ∙ c.in-Read-more.is) in
     rw c.stop_at-then-differs-2.ensures (
@@ -73,14 +78,16 @@ returns-then-differs-2 c = let a = c.args in
     )
 
 pub read_times-requires : goal.read_times-requires
-read_times-requires c = let a = c.args in
+read_times-requires c =
+    let a = c.args in
     let whole = field_in a.bytes.now a.at 4 _ _ (sym c.read_field-got.ensures.0 ∙ c.in-Read.is) in
     let whole2 = field_in a.bytes.now _ 4 _ _ (sym c.read_field-more.ensures.0 ∙ c.in-Read-more.is) in
     (omega arith, c.requires.1, c.requires.2, whole2.inside)
 
 pub returns : goal.returns
 unfolding fields_d
-returns c = let a = c.args in
+returns c =
+    let a = c.args in
     let whole = field_in a.bytes.now a.at 4 _ _ (sym c.read_field-got.ensures.0 ∙ c.in-Read.is) in (
       λ p base f i hp hn there here.
           c.read_times.ensures.0 p base f (ap (λ (w : Wanted). w.inner) hp) hn

@@ -1,4 +1,4 @@
--- `walk_index::read_sized` meets its contract, by that of `read_field`, and by the definition of `wideMore`.
+-- `walk_index::read_sized` meets its contract, by that of `read_field`, and by the definition of `wide_more`.
 use Rattle.state.specs.Sidx.{wide_more}
 use Rattle.walk_index.proofs.read_sized.Goals as goal
 

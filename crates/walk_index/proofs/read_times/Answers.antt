@@ -16,7 +16,8 @@ returns-in_default c = (λ p base f hp hn. sym (read_out base _ f _ _ _ c.read_s
 -- another start time
 pub returns-then-differs : goal.returns-then-differs
 unfolding fields_d
-returns-then-differs c = let a = c.args in
+returns-then-differs c =
+    let a = c.args in
     let whole = field_in a.bytes.now a.at (suc (wide_more a.big)) _ _ (sym c.read_sized-got.ensures ∙ c.in-Read.is) in
     let few = wide_most a.big in
     rw c.stop_at.ensures (
@@ -27,7 +28,8 @@ returns-then-differs c = let a = c.args in
     )
 
 pub read_sized-more-requires : goal.read_sized-more-requires
-read_sized-more-requires c = let a = c.args in
+read_sized-more-requires c =
+    let a = c.args in
     let whole = field_in a.bytes.now a.at (suc (wide_more a.big)) _ _ (sym c.read_sized-got.ensures ∙ c.in-Read.is) in
     let few = wide_most a.big in
     omega arith
@@ -35,7 +37,8 @@ read_sized-more-requires c = let a = c.args in
 -- the bytes end before the first offset
 pub returns-in_default-more : goal.returns-in_default-more
 unfolding fields_d
-returns-in_default-more c = let a = c.args in
+returns-in_default-more c =
+    let a = c.args in
     let whole = field_in a.bytes.now a.at (suc (wide_more a.big)) _ _ (sym c.read_sized-got.ensures ∙ c.in-Read.is) in (
       λ p base f hp hn.
           sym (read_in base _ f _ _ _ c.read_sized-got.ensures c.requires.3 c.in-Read.is
@@ -47,7 +50,8 @@ returns-in_default-more c = let a = c.args in
 -- a first offset that is not 0
 pub returns-then-differs-2 : goal.returns-then-differs-2
 unfolding fields_d
-returns-then-differs-2 c = let a = c.args in
+returns-then-differs-2 c =
+    let a = c.args in
     let whole = field_in a.bytes.now a.at (suc (wide_more a.big)) _ _ (sym c.read_sized-got.ensures ∙ c.in-Read.is) in
     let whole2 = field_in a.bytes.now _ (suc (wide_more a.big)) _ _ (sym c.read_sized-more.ensures ∙ c.in-Read-more.is) in
     let few = wide_most a.big in
@@ -61,14 +65,16 @@ returns-then-differs-2 c = let a = c.args in
     )
 
 pub overflow_add-last : goal.overflow_add-last
-overflow_add-last c = let a = c.args in
+overflow_add-last c =
+    let a = c.args in
     let whole = field_in a.bytes.now a.at (suc (wide_more a.big)) _ _ (sym c.read_sized-got.ensures ∙ c.in-Read.is) in
     let whole2 = field_in a.bytes.now _ (suc (wide_more a.big)) _ _ (sym c.read_sized-more.ensures ∙ c.in-Read-more.is) in
     let few = wide_most a.big in
     omega arith
 
 pub read_count-requires : goal.read_count-requires
-read_count-requires c = let a = c.args in
+read_count-requires c =
+    let a = c.args in
     let whole = field_in a.bytes.now a.at (suc (wide_more a.big)) _ _ (sym c.read_sized-got.ensures ∙ c.in-Read.is) in
     let whole2 = field_in a.bytes.now _ (suc (wide_more a.big)) _ _ (sym c.read_sized-more.ensures ∙ c.in-Read-more.is) in
     let few = wide_most a.big in
@@ -76,7 +82,8 @@ read_count-requires c = let a = c.args in
 
 pub returns : goal.returns
 unfolding fields_d
-returns c = let a = c.args in
+returns c =
+    let a = c.args in
     let whole = field_in a.bytes.now a.at (suc (wide_more a.big)) _ _ (sym c.read_sized-got.ensures ∙ c.in-Read.is) in
     let whole2 = field_in a.bytes.now _ (suc (wide_more a.big)) _ _ (sym c.read_sized-more.ensures ∙ c.in-Read-more.is) in (
       λ p base f hp hn.

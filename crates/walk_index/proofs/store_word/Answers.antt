@@ -17,7 +17,8 @@ bounds-work-i-4 c = simp length-set (omega arith)
 
 pub returns : goal.returns
 unfolding put_all
-returns c = let i = c.args.i in
+returns c =
+    let i = c.args.i in
     let a : i + 1 ≡ suc i = omega arith in
     let b : i + 2 ≡ suc (suc i) = omega arith in
     let d : i + 3 ≡ suc (suc (suc i)) = omega arith in

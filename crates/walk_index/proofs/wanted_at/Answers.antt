@@ -1,4 +1,4 @@
--- `walk_index::wanted_at` meets its contract, by the definition of `wantedOf`.
+-- `walk_index::wanted_at` meets its contract, by the definition of `wanted_of`.
 use mathlib.Core.Path.{subst}
 use native.Mathlib.Omega.{arith}
 use Rattle.index.specs.declared.Where.{Where}

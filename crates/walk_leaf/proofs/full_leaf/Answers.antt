@@ -1,4 +1,4 @@
--- `walk_leaf::full_leaf` meets its contract, by those of `read_head`, `head_walked`, `leaf_flaw` and `stop_at`, and by the laws `full-head` and `full-shown`.
+-- `walk_leaf::full_leaf` meets its contract, by those of `read_head`, `head_walked`, `leaf_flaw` and `stop_at`, and by the laws `full_head` and `full_shown`.
 use Prim.Native.Nat.{ℕ, ◌+◌}
 use mathlib.Core.Path.{◌≡◌, ap, sym, ◌∙◌}
 use mathlib.Core.Bool.{false}
@@ -24,7 +24,8 @@ refuses (head.Bad x) = tt
 refuses head.Ended = tt
 
 pub returns-in_default : goal.returns-in_default
-returns-in_default c = let a = c.args in
+returns-in_default c =
+    let a = c.args in
     let s = a.bytes.now in
     let told = c.head_walked.ensures in (
       λ id last. rw told (full_head id s a.at a.end last c.requires.2 c.requires.0 _ (sym c.read_head-head.ensures) (opened c.in_default.in_default-own.keys2)),
@@ -32,14 +33,16 @@ returns-in_default c = let a = c.args in
     )
 
 pub overflow_add-next : goal.overflow_add-next
-overflow_add-next c = let a = c.args in
+overflow_add-next c =
+    let a = c.args in
     let i = head_in a.bytes.now a.at a.end _ (sym c.read_head-head.ensures ∙ c.in-Read.is) in
     let within = i.within in
     let holds = i.holds in
     omega arith
 
 pub returns-then-flaw-ne0 : goal.returns-then-flaw-ne0
-returns-then-flaw-ne0 c = let a = c.args in
+returns-then-flaw-ne0 c =
+    let a = c.args in
     let s = a.bytes.now in
     let h = c.in-Read.h in
     let e = sym c.read_head-head.ensures ∙ c.in-Read.is in
@@ -54,7 +57,8 @@ returns-then-flaw-ne0 c = let a = c.args in
     )
 
 pub returns : goal.returns
-returns c = let a = c.args in
+returns c =
+    let a = c.args in
     let s = a.bytes.now in
     let h = c.in-Read.h in
     let e = sym c.read_head-head.ensures ∙ c.in-Read.is in

@@ -1,4 +1,4 @@
--- `walk_leaf::head_walked` meets its contract, by the definition of `headWalked`.
+-- `walk_leaf::head_walked` meets its contract, by the definition of `head_walked`.
 use Rattle.walk_leaf.specs.Walks.{head_walked}
 use Rattle.walk_leaf.proofs.head_walked.Goals as goal
 

@@ -8,5 +8,6 @@ use Rattle.flaws.specs.Flaws.{flaw_of}
 use Rattle.walk_leaf.proofs.leaf_flaw.Goals as goal
 
 pub returns : goal.returns
-returns c = let lengths = flaw_of (top_lengths c.args.h) in
+returns c =
+    let lengths = flaw_of (top_lengths c.args.h) in
     c.top_flaw.ensures ∙ ap (λ (n : ℕ). pick (eqb lengths 0) n lengths) c.leaf_kind_flaw.ensures

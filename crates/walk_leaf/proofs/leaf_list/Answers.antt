@@ -59,13 +59,14 @@ module _ (c : In-Read) where
   whole r d g =
       leaf_listed id s end c.args.from c.args.known r c.requires.0 c.requires.2 (c.loop-at.invariant.4 r d) g
 
-
 pub loop-at-init : goal.loop-at-init
-loop-at-init c = let p = c.requires in
+loop-at-init c =
+    let p = c.requires in
     (omega arith, omega arith, p.2, p.3, λ r d. d)
 
 pub returns-in_default : goal.returns-in_default
-returns-in_default c = let l = c.loop-at in
+returns-in_default c =
+    let l = c.loop-at in
     let a = c.args in
     let s = a.bytes.now in
     let e = sym c.quick_head-head.ensures in
@@ -75,14 +76,16 @@ returns-in_default c = let l = c.loop-at in
     (rw told (list_fixed s a.end (head_walked c.quick_head-head.result) (head_fixed s l.at a.end c.loop-at-test.true _ e)))
 
 pub overflow_add-at : goal.overflow_add-at
-overflow_add-at c = let k = (goal.at.overflow_add-at c).In-Read in
+overflow_add-at c =
+    let k = (goal.at.overflow_add-at c).In-Read in
     let w = within k in
     let holds = (headed k).holds in
     let far = (headed k).far in
     omega arith
 
 pub returns-then-flaw-ne0 : goal.returns-then-flaw-ne0
-returns-then-flaw-ne0 c = let k = (goal.at.returns-then-flaw-ne0 c).In-Read in
+returns-then-flaw-ne0 c =
+    let k = (goal.at.returns-then-flaw-ne0 c).In-Read in
     let shown = c.leaf_flaw-flaw.ensures in
     let told = c.stop_at.ensures ∙ ap (λ (n : ℕ). stop_at n (at k) (at k + (h k).head)) shown in
     let nine = flaw_nine (eqb (so k).mark 1) (h k) in
@@ -92,23 +95,29 @@ returns-then-flaw-ne0 c = let k = (goal.at.returns-then-flaw-ne0 c).In-Read in
     (rw told (record { none = refl; low = omega arith; place = omega arith; count = omega arith }))
 
 pub box_walk-passed-requires : goal.box_walk-passed-requires
-box_walk-passed-requires c = let k = (goal.at.box_walk-passed-requires c).In-Read in
+box_walk-passed-requires c =
+    let k = (goal.at.box_walk-passed-requires c).In-Read in
     (headed k, c.loop-at.invariant.3)
 
 pub returns-in_default-passed : goal.returns-in_default-passed
-returns-in_default-passed c = let k = (goal.at.returns-in_default-passed c).In-Read in
+returns-in_default-passed c =
+    let k = (goal.at.returns-in_default-passed c).In-Read in
+    let stays = opened c.in_default-passed.in_default-passed-own.keys2 in
     whole k _
-    (leaf_stays (id k) (s k) (end k) (at k) (so k) (here k) (before k) (read k) (headed k) (sym c.leaf_flaw-flaw.ensures ∙ c.if-flaw-ne0.false) c.box_walk-passed.ensures (opened c.in_default-passed.in_default-passed-own.keys2))
-    (list_fixed (s k) (end k) c.box_walk-passed.result (stays_fixed (s k) _ (end k) (within k) c.box_walk-passed.result (opened c.in_default-passed.in_default-passed-own.keys2) c.box_walk-passed.ensures.fixed))
+    (leaf_stays (id k) (s k) (end k) (at k) (so k) (here k) (before k) (read k) (headed k) (sym c.leaf_flaw-flaw.ensures ∙ c.if-flaw-ne0.false)
+    c.box_walk-passed.ensures stays)
+    (list_fixed (s k) (end k) c.box_walk-passed.result (stays_fixed (s k) _ (end k) (within k) c.box_walk-passed.result stays c.box_walk-passed.ensures.fixed))
 
 pub overflow_add-at-in-loop-at : goal.overflow_add-at-in-loop-at
-overflow_add-at-in-loop-at c = let k = (goal.at.overflow_add-at-in-loop-at c).In-Read in
+overflow_add-at-in-loop-at c =
+    let k = (goal.at.overflow_add-at-in-loop-at c).In-Read in
     let w = within k in
     let far = (headed k).far in
     omega arith
 
 pub loop-at-smaller : goal.loop-at-smaller
-loop-at-smaller c = let k = (goal.at.loop-at-smaller c).In-Read in
+loop-at-smaller c =
+    let k = (goal.at.loop-at-smaller c).In-Read in
     let w = within k in
     let b = before k in
     let some = (headed k).short in
@@ -116,7 +125,8 @@ loop-at-smaller c = let k = (goal.at.loop-at-smaller c).In-Read in
     omega arith
 
 pub loop-at-preserved : goal.loop-at-preserved
-loop-at-preserved c = let k = (goal.at.loop-at-preserved c).In-Read in
+loop-at-preserved c =
+    let k = (goal.at.loop-at-preserved c).In-Read in
     let l = c.loop-at in
     let (there, few) = over_fixed (s k) _ c.in-Over.is c.box_walk-passed.ensures.fixed in
     let w = within k in
@@ -131,7 +141,8 @@ loop-at-preserved c = let k = (goal.at.loop-at-preserved c).In-Read in
     )
 
 pub returns : goal.returns
-returns c = let l = c.loop-at in
+returns c =
+    let l = c.loop-at in
     let a = c.args in
     let s = a.bytes.now in
     let q : l.at ≡ a.end = omega arith in

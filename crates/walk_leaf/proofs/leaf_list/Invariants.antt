@@ -7,7 +7,9 @@ use Rattle.walk_leaf.proofs.Leaves.{LeafFrom, flaw_nine, leaf_head, leaf_flaw_le
 use Rattle.walk_leaf.proofs.leaf_list.Given as goal
 
 abbrev pub invariant-loop-at : goal.invariant-loop-at
-invariant-loop-at l = (l.initial.at ≤ l.at) × (l.at ≤ l.end) × (l.at ≤ length l.bytes) × (l.so.any ≤ 1) × ((r : Walked) → LeafFrom l.id l.bytes l.end l.at l.so r → LeafFrom l.id l.bytes l.end l.initial.at l.initial.so r)
+invariant-loop-at l =
+    (l.initial.at ≤ l.at) × (l.at ≤ l.end) × (l.at ≤ length l.bytes) × (l.so.any ≤ 1)
+    × ((r : Walked) → LeafFrom l.id l.bytes l.end l.at l.so r → LeafFrom l.id l.bytes l.end l.initial.at l.initial.so r)
 
 abbrev pub decreases-loop-at : goal.decreases-loop-at
 decreases-loop-at l = l.end - l.at

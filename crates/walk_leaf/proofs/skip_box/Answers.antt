@@ -1,4 +1,4 @@
--- `walk_leaf::skip_box` meets its contract, by the laws `pick_yes` and `pick_no`, and by the definition of `skipWalked`.
+-- `walk_leaf::skip_box` meets its contract, by the laws `pick_yes` and `pick_no`, and by the definition of `skip_walked`.
 use mathlib.Core.Path.{sym}
 use borrow.Author.Tests.{lt-ltb, le-ltb}
 use Rattle.basics.proofs.Picks.{pick_yes, pick_no}

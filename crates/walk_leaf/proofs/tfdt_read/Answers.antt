@@ -1,5 +1,5 @@
 -- `walk_leaf::tfdt_read` meets its contract, by those of `read_field`, `version_flaw`, `stop_at`, `read_sized` and `time_box`, and by the laws
--- `track-tfdt`, `tfdt-ended`, `tfdt-flawed`, `tfdt-short`, `tfdt-timed`, `version_low` and `version-fits`.
+-- `track_tfdt`, `tfdt_ended`, `tfdt_flawed`, `tfdt_short`, `tfdt_timed`, `version_low` and `version_fits`.
 use Prim.Native.Nat.{ℕ, ◌+◌}
 use mathlib.Core.Path.{◌≡◌, refl, ap, sym, subst, ◌∙◌}
 use mathlib.Core.List.{List}
@@ -36,10 +36,10 @@ module _ (s : List ℕ) (at v next flaw : ℕ) (h : Header) (head : Headed s at 
       let p = head.pos in
       omega arith
 
-
 pub returns-in_default : goal.returns-in_default
 unfolding walked_d
-returns-in_default c id = let a = c.args in
+returns-in_default c id =
+    let a = c.args in
     let s = a.bytes.now in
     let (head, kind, eight, few) = c.requires in
     record {
@@ -51,7 +51,8 @@ returns-in_default c id = let a = c.args in
 
 pub returns-then-flaw-ne0 : goal.returns-then-flaw-ne0
 unfolding walked_d
-returns-then-flaw-ne0 c id = let a = c.args in
+returns-then-flaw-ne0 c id =
+    let a = c.args in
     let s = a.bytes.now in
     let (head, kind, eight, few) = c.requires in
     let e = sym c.read_field-got.ensures.0 ∙ c.in-Read.is in
@@ -71,7 +72,8 @@ returns-then-flaw-ne0 c id = let a = c.args in
     }
 
 pub overflow_add-next : goal.overflow_add-next
-overflow_add-next c = let a = c.args in
+overflow_add-next c =
+    let a = c.args in
     let i = field_in a.bytes.now (a.at + a.h.head) 1 _ _ (sym c.read_field-got.ensures.0 ∙ c.in-Read.is) in
     let after = i.after in
     let far = c.requires.0.far in
@@ -79,7 +81,8 @@ overflow_add-next c = let a = c.args in
     omega arith
 
 pub read_sized-time-requires : goal.read_sized-time-requires
-read_sized-time-requires c = let a = c.args in
+read_sized-time-requires c =
+    let a = c.args in
     let i = field_in a.bytes.now (a.at + a.h.head) 1 _ _ (sym c.read_field-got.ensures.0 ∙ c.in-Read.is) in
     let after = i.after in
     let far = c.requires.0.far in
@@ -88,7 +91,8 @@ read_sized-time-requires c = let a = c.args in
 
 pub returns-in_default-time : goal.returns-in_default-time
 unfolding walked_d
-returns-in_default-time c id = let a = c.args in
+returns-in_default-time c id =
+    let a = c.args in
     let s = a.bytes.now in
     let (head, kind, eight, few) = c.requires in
     let e = sym c.read_field-got.ensures.0 ∙ c.in-Read.is in
@@ -104,7 +108,8 @@ returns-in_default-time c id = let a = c.args in
 
 -- the decode time that was read ends the box
 pub time_box-requires : goal.time_box-requires
-time_box-requires c = let a = c.args in
+time_box-requires c =
+    let a = c.args in
     let s = a.bytes.now in
     let (head, kind, eight, few) = c.requires in
     let i = field_in s (a.at + a.h.head) 1 _ _ (sym c.read_field-got.ensures.0 ∙ c.in-Read.is) in
@@ -114,7 +119,8 @@ time_box-requires c = let a = c.args in
     (omega arith, few)
 
 pub returns : goal.returns
-returns c id = let a = c.args in
+returns c id =
+    let a = c.args in
     let s = a.bytes.now in
     let (head, kind, eight, few) = c.requires in
     let e = sym c.read_field-got.ensures.0 ∙ c.in-Read.is in

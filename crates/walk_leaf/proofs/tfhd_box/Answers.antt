@@ -1,5 +1,5 @@
--- `walk_leaf::tfhd_box` meets its contract, by those of `read_field`, `track_mark` and `marked`, and by the laws `track-tfhd`, `tfhd-short`,
--- `tfhd-ended` and `tfhd-whole`.
+-- `walk_leaf::tfhd_box` meets its contract, by those of `read_field`, `track_mark` and `marked`, and by the laws `track_tfhd`, `tfhd_short`,
+-- `tfhd_ended` and `tfhd_whole`.
 use Prim.Native.Nat.{◌+◌}
 use mathlib.Core.Path.{◌≡◌, ap, sym, subst, ◌∙◌}
 use native.Mathlib.Omega.{arith}
@@ -16,7 +16,8 @@ use Rattle.walk_leaf.proofs.tfhd_box.Goals as goal
 
 pub returns-then-bytes-at : goal.returns-then-bytes-at
 unfolding walked_d
-returns-then-bytes-at c = let a = c.args in
+returns-then-bytes-at c =
+    let a = c.args in
     let (head, kind, eight, few) = c.requires in
     record {
       right = λ base f.
@@ -27,7 +28,8 @@ returns-then-bytes-at c = let a = c.args in
 
 pub returns-in_default : goal.returns-in_default
 unfolding walked_d
-returns-in_default c = let a = c.args in
+returns-in_default c =
+    let a = c.args in
     let (head, kind, eight, few) = c.requires in
     record {
       right = λ base f.
@@ -37,7 +39,8 @@ returns-in_default c = let a = c.args in
     }
 
 pub returns : goal.returns
-returns c = let a = c.args in
+returns c =
+    let a = c.args in
     let s = a.bytes.now in
     let (head, kind, eight, few) = c.requires in
     let e : field_at s (a.at + a.h.head + 4) 4 ≡ field.Read c.in-Read.v c.in-Read.field-1 = sym c.read_field-got.ensures.0 ∙ c.in-Read.is in

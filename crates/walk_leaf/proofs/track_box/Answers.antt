@@ -1,4 +1,4 @@
--- `walk_leaf::track_box` meets its contract, by those of `tfhd_box`, `tfdt_box` and `skip_box`, and by the laws `body-eight`, `track-other` and `skip-fixed`.
+-- `walk_leaf::track_box` meets its contract, by those of `tfhd_box`, `tfdt_box` and `skip_box`, and by the laws `body_eight`, `track_other` and `skip_fixed`.
 use mathlib.Core.Path.{ap, sym, subst, ◌∙◌}
 use mathlib.Core.Logic.{inl, inr}
 use Prim.Native.Nat.{◌+◌}
@@ -9,7 +9,8 @@ use Rattle.walk_leaf.proofs.Tracks.{body_eight, track_other, skip_fixed}
 use Rattle.walk_leaf.proofs.track_box.Goals as goal
 
 pub tfhd_box-requires : goal.tfhd_box-requires
-tfhd_box-requires c = let a = c.args in
+tfhd_box-requires c =
+    let a = c.args in
     let (head, none, few) = c.requires in
     (head, c.if-h-eq-TFHD.true, body_eight a.so.mark a.h (inl c.if-h-eq-TFHD.true) head.holds none, few)
 
@@ -17,7 +18,8 @@ pub returns-then-h-eq-TFHD : goal.returns-then-h-eq-TFHD
 returns-then-h-eq-TFHD c = c.tfhd_box.ensures
 
 pub tfdt_box-requires : goal.tfdt_box-requires
-tfdt_box-requires c = let a = c.args in
+tfdt_box-requires c =
+    let a = c.args in
     let (head, none, few) = c.requires in
     (head, c.if-h-eq-TFDT.true, body_eight a.so.mark a.h (inr c.if-h-eq-TFDT.true) head.holds none, few)
 
@@ -25,7 +27,8 @@ pub returns-then-h-eq-TFDT : goal.returns-then-h-eq-TFDT
 returns-then-h-eq-TFDT c = c.tfdt_box.ensures c.args.id
 
 pub returns : goal.returns
-returns c = let a = c.args in
+returns c =
+    let a = c.args in
     let s = a.bytes.now in
     let (head, none, few) = c.requires in
     record {

@@ -64,13 +64,14 @@ module _ (c : In-Read) where
       TrafWalked s id pos c.args.from end c.args.known r
   whole r d g = traf_walked id s pos _ end _ _ r c.marked-so.ensures (c.loop-at.invariant.4 r d) g
 
-
 pub loop-at-init : goal.loop-at-init
-loop-at-init c = let few : c.marked-so.result.any ≤ 1 = rw c.marked-so.ensures c.requires.4 in
+loop-at-init c =
+    let few : c.marked-so.result.any ≤ 1 = rw c.marked-so.ensures c.requires.4 in
     (omega arith, c.requires.1, c.requires.3, few, λ r d. d)
 
 pub returns-in_default : goal.returns-in_default
-returns-in_default c = let l = c.loop-at in
+returns-in_default c =
+    let l = c.loop-at in
     let a = c.args in
     let s = a.bytes.now in
     let e = sym c.quick_head-head.ensures in
@@ -80,17 +81,20 @@ returns-in_default c = let l = c.loop-at in
     (rw told (head_fixed s l.at a.end c.loop-at-test.true _ e))
 
 pub traf_flaw-flaw-requires : goal.traf_flaw-flaw-requires
-traf_flaw-flaw-requires c = let k = (goal.at.traf_flaw-flaw-requires c).In-Read in
+traf_flaw-flaw-requires c =
+    let k = (goal.at.traf_flaw-flaw-requires c).In-Read in
     (headed k).holds
 
 pub flaw_stop-requires : goal.flaw_stop-requires
-flaw_stop-requires c = let k = (goal.at.flaw_stop-requires c).In-Read in
+flaw_stop-requires c =
+    let k = (goal.at.flaw_stop-requires c).In-Read in
     let long = (headed k).long in
     let w = within k in
     omega arith
 
 pub returns-then-flaw-ne0 : goal.returns-then-flaw-ne0
-returns-then-flaw-ne0 c = let k = (goal.at.returns-then-flaw-ne0 c).In-Read in
+returns-then-flaw-ne0 c =
+    let k = (goal.at.returns-then-flaw-ne0 c).In-Read in
     let flaw = flaw_of (traf_faults (phase_of (so k).mark) (h k)) in
     let shown = c.traf_flaw-flaw.ensures in
     let told = c.flaw_stop.ensures ∙ ap (λ (n : ℕ). flaw_stop n (so k).mark (pos k) (at k) (end k) (at k + (h k).head)) shown in
@@ -101,23 +105,27 @@ returns-then-flaw-ne0 c = let k = (goal.at.returns-then-flaw-ne0 c).In-Read in
     (rw told (flaw_stop_in flaw (so k).mark (pos k) (at k) (end k) (at k + (h k).head) (flaw_few (h k).pos _ (traf_beyond (phase_of (so k).mark) (h k))) (omega arith) (omega arith) (omega arith)))
 
 pub track_box-passed-requires : goal.track_box-passed-requires
-track_box-passed-requires c = let k = (goal.at.track_box-passed-requires c).In-Read in
+track_box-passed-requires c =
+    let k = (goal.at.track_box-passed-requires c).In-Read in
     (headed k, sym c.traf_flaw-flaw.ensures ∙ c.if-flaw-ne0.false, c.loop-at.invariant.3)
 
 pub returns-in_default-passed : goal.returns-in_default-passed
-returns-in_default-passed c = let k = (goal.at.returns-in_default-passed c).In-Read in
+returns-in_default-passed c =
+    let k = (goal.at.returns-in_default-passed c).In-Read in
     whole k _
     (traf_stays (id k) (s k) (pos k) (end k) (at k) (so k) (here k) (before k) (read k) (headed k) (sym c.traf_flaw-flaw.ensures ∙ c.if-flaw-ne0.false)
     c.track_box-passed.ensures (opened c.in_default-passed.in_default-passed-own.keys2))
     (stays_fixed (s k) _ (end k) (within k) c.track_box-passed.result (opened c.in_default-passed.in_default-passed-own.keys2) c.track_box-passed.ensures.fixed)
 
 pub overflow_add-at : goal.overflow_add-at
-overflow_add-at c = let k = (goal.at.overflow_add-at c).In-Read in
+overflow_add-at c =
+    let k = (goal.at.overflow_add-at c).In-Read in
     let w = within k in
     omega arith
 
 pub loop-at-smaller : goal.loop-at-smaller
-loop-at-smaller c = let k = (goal.at.loop-at-smaller c).In-Read in
+loop-at-smaller c =
+    let k = (goal.at.loop-at-smaller c).In-Read in
     let w = within k in
     let b = before k in
     let some = (headed k).short in
@@ -125,7 +133,8 @@ loop-at-smaller c = let k = (goal.at.loop-at-smaller c).In-Read in
     omega arith
 
 pub loop-at-preserved : goal.loop-at-preserved
-loop-at-preserved c = let k = (goal.at.loop-at-preserved c).In-Read in
+loop-at-preserved c =
+    let k = (goal.at.loop-at-preserved c).In-Read in
     let l = c.loop-at in
     let (there, few) = over_fixed (s k) _ c.in-Over.is c.track_box-passed.ensures.fixed in
     let w = within k in
@@ -140,7 +149,8 @@ loop-at-preserved c = let k = (goal.at.loop-at-preserved c).In-Read in
     )
 
 pub returns-then-so-ne1 : goal.returns-then-so-ne1
-returns-then-so-ne1 c = let l = c.loop-at in
+returns-then-so-ne1 c =
+    let l = c.loop-at in
     let a = c.args in
     let s = a.bytes.now in
     let q : l.at ≡ a.end = omega arith in
@@ -150,7 +160,8 @@ returns-then-so-ne1 c = let l = c.loop-at in
     (rw told (record { none = refl; low = omega arith; place = omega arith; count = omega arith }))
 
 pub returns : goal.returns
-returns c = let l = c.loop-at in
+returns c =
+    let l = c.loop-at in
     let a = c.args in
     let s = a.bytes.now in
     let q : l.at ≡ a.end = omega arith in

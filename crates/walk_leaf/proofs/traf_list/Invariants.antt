@@ -7,7 +7,9 @@ use Rattle.walk_leaf.proofs.Trafs.{TrafFrom, traf_head, traf_flawed, traf_stays,
 use Rattle.walk_leaf.proofs.traf_list.Given as goal
 
 abbrev pub invariant-loop-at : goal.invariant-loop-at
-invariant-loop-at l = (l.initial.at ≤ l.at) × (l.at ≤ l.end) × (l.at ≤ length l.bytes) × (l.so.any ≤ 1) × ((r : Walked) → TrafFrom l.id l.bytes l.pos l.end l.at l.so r → TrafFrom l.id l.bytes l.pos l.end l.initial.at l.initial.so r)
+invariant-loop-at l =
+    (l.initial.at ≤ l.at) × (l.at ≤ l.end) × (l.at ≤ length l.bytes) × (l.so.any ≤ 1)
+    × ((r : Walked) → TrafFrom l.id l.bytes l.pos l.end l.at l.so r → TrafFrom l.id l.bytes l.pos l.end l.initial.at l.initial.so r)
 
 abbrev pub decreases-loop-at : goal.decreases-loop-at
 decreases-loop-at l = l.end - l.at

@@ -1,4 +1,4 @@
--- `walk_leaf::version_flaw` meets its contract, by the laws `version-high`, `short-wrong`, `short-right`, `long-wrong` and `long-right`.
+-- `walk_leaf::version_flaw` meets its contract, by the laws `version_high`, `short_wrong`, `short_right`, `long_wrong` and `long_right`.
 use Prim.Native.Nat.{ℕ, ◌≤◌}
 use mathlib.Core.Path.{◌≡◌, sym}
 use native.Mathlib.Omega.{arith}
@@ -19,9 +19,11 @@ pub returns-then-v-eq0 : goal.returns-then-v-eq0
 returns-then-v-eq0 c base = let fits = c.requires in sym (short_right _ _ _ _ c.if-v-eq0.true (omega arith))
 
 pub returns-then-body-ne12 : goal.returns-then-body-ne12
-returns-then-body-ne12 c base = let fits = c.requires in
+returns-then-body-ne12 c base =
+    let fits = c.requires in
     sym (long_wrong _ _ _ _ (one _ c.if-v-gt1.false c.if-v-eq0.false) (λ q. c.if-body-ne12.true (omega arith)))
 
 pub returns : goal.returns
-returns c base = let fits = c.requires in
+returns c base =
+    let fits = c.requires in
     sym (long_right _ _ _ _ (one _ c.if-v-gt1.false c.if-v-eq0.false) (omega arith))

@@ -1,4 +1,4 @@
--- `walk_opening::crossed_found` meets its contract, by the definition of `crossedFound`.
+-- `walk_opening::crossed_found` meets its contract, by the definition of `crossed_found`.
 use Rattle.walk_opening.specs.Steps.{crossed_found}
 use Rattle.walk_opening.proofs.crossed_found.Goals as goal
 

@@ -1,4 +1,4 @@
--- `walk_opening::found_answer` meets its contract, by the definition of `foundAnswer`.
+-- `walk_opening::found_answer` meets its contract, by the definition of `found_answer`.
 use Rattle.walk_opening.specs.Steps.{found_answer}
 use Rattle.walk_opening.proofs.found_answer.Goals as goal
 

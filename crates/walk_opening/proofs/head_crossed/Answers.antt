@@ -1,4 +1,4 @@
--- `walk_opening::head_crossed` meets its contract, by the definition of `headCrossed`.
+-- `walk_opening::head_crossed` meets its contract, by the definition of `head_crossed`.
 use Rattle.walk_opening.specs.Steps.{head_crossed}
 use Rattle.walk_opening.proofs.head_crossed.Goals as goal
 

@@ -1,4 +1,4 @@
--- `walk_opening::head_found` meets its contract, by the definition of `headFound`.
+-- `walk_opening::head_found` meets its contract, by the definition of `head_found`.
 use Rattle.walk_opening.specs.Steps.{head_found}
 use Rattle.walk_opening.proofs.head_found.Goals as goal
 

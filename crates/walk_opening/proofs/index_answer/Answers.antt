@@ -1,4 +1,4 @@
--- `walk_opening::index_answer` meets its contract, by the definition of `indexAnswer`.
+-- `walk_opening::index_answer` meets its contract, by the definition of `index_answer`.
 use Rattle.walk_opening.specs.Steps.{index_answer}
 use Rattle.walk_opening.proofs.index_answer.Goals as goal
 

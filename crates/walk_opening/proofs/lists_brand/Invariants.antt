@@ -1,4 +1,4 @@
--- `walk_opening::lists_brand` meets its contract, by that of `word_at`, and by the laws `among-found`, `among_next` and `among_none`. The loop's invariant: whether the brand is among
+-- `walk_opening::lists_brand` meets its contract, by that of `word_at`, and by the laws `among_found`, `among_next` and `among_none`. The loop's invariant: whether the brand is among
 -- those to come is whether it is among all; the measure is the bytes to come.
 use Prim.Native.Nat.{◌-◌, ◌%◌, ◌≤◌}
 use mathlib.Core.Path.{◌≡◌, refl, sym, ◌∙◌}

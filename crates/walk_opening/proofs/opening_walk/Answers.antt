@@ -1,5 +1,5 @@
--- `walk_opening::opening_walk` meets its contract, by those of `find_index`, `found_answer`, `index_walk` and `index_answer`, and by the laws `not_found`, `index-walked`,
--- `index-stopped` and `index_read`.
+-- `walk_opening::opening_walk` meets its contract, by those of `find_index`, `found_answer`, `index_walk` and `index_answer`, and by the laws `not_found`, `index_walked`,
+-- `index_stopped` and `index_read`.
 use Prim.Native.Nat.{ℕ, ◌+◌, ◌-◌}
 use mathlib.Core.Path.{◌≡◌, subst}
 use mathlib.Core.List.{List}

@@ -1,4 +1,4 @@
--- `walk_opening::skip_to` meets its contract, by the definition of `skippedTo`.
+-- `walk_opening::skip_to` meets its contract, by the definition of `skipped_to`.
 use borrow.Author.Tests.{lt-ltb, le-ltb}
 use Rattle.basics.specs.Choose.{pick}
 use Rattle.walk_opening.specs.Steps.{skipped_to}

@@ -1,4 +1,4 @@
--- `whole::gap_refused` meets its contract, by the definition of `gapOut`.
+-- `whole::gap_refused` meets its contract, by the definition of `gap_out`.
 use Rattle.whole.proofs.gap_refused.Goals as goal
 
 pub returns-in-Over : goal.returns-in-Over

@@ -1,4 +1,4 @@
--- `whole::material_refused` meets its contract, by the definition of `materialOut`.
+-- `whole::material_refused` meets its contract, by the definition of `material_out`.
 use Rattle.whole.proofs.material_refused.Goals as goal
 
 pub returns-in-On : goal.returns-in-On

@@ -1,4 +1,4 @@
--- `whole::opening_refused` meets its contract, by the definition of `openingOut`.
+-- `whole::opening_refused` meets its contract, by the definition of `opening_out`.
 use Rattle.whole.proofs.opening_refused.Goals as goal
 
 pub returns-in-Read : goal.returns-in-Read

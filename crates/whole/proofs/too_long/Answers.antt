@@ -1,4 +1,4 @@
--- `whole::too_long` meets its contract, by that of `refused`, and by the laws `long-limit` and `long-elsewhere`.
+-- `whole::too_long` meets its contract, by that of `refused`, and by the laws `long_limit` and `long_elsewhere`.
 use mathlib.Core.Path.{ap, ◌∙◌}
 use Rattle.whole.specs.Views.{ending_out}
 use Rattle.whole.proofs.Laws.{long_limit, long_elsewhere}

@@ -1,4 +1,4 @@
--- `whole::whole` meets its contract, by those of `whole_ending` and `start`, and by the definition of `endingOut`.
+-- `whole::whole` meets its contract, by those of `whole_ending` and `start`, and by the definition of `ending_out`.
 use mathlib.Core.Path.{ap, sym, ◌∙◌}
 use Rattle.whole.specs.Views.{ending_out}
 use Rattle.whole.proofs.whole.Goals as goal

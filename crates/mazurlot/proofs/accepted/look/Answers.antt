@@ -1,5 +1,5 @@
--- `mazurlot::accepted::look` meets its contract, by those of `accepted_numbers`, `look_accepted` and `refused_with`, and by the laws `accepted-looked-up`
--- and `others-refused`.
+-- `mazurlot::accepted::look` meets its contract, by those of `accepted_numbers`, `look_accepted` and `refused_with`, and by the laws `accepted_looked_up`
+-- and `others_refused`.
 use Prim.Native.Nat.{ℕ, ◌<◌}
 use mathlib.Core.Path.{◌≡◌, sym, ap, subst, ◌∙◌}
 use native.Mathlib.Omega.{arith}
@@ -15,7 +15,6 @@ use Rattle.mazurlot.proofs.accepted.look.Goals as goal
 -- an accepted state has places enough to be read
 reads : (c : Then-accepted_numbers) → length c.args.numbers.now ≡ 57
 reads c = accepted_long _ (sym c.accepted_numbers.ensures ∙ c.if-accepted_numbers.true)
-
 
 pub bounds-numbers-3 : goal.bounds-numbers-3
 bounds-numbers-3 c =

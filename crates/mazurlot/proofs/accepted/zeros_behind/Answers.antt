@@ -1,4 +1,4 @@
--- `mazurlot::accepted::zeros_behind` meets its contract, by that of `zero_too`, and by the laws of a place (`next_place`, `last-place`).
+-- `mazurlot::accepted::zeros_behind` meets its contract, by that of `zero_too`, and by the laws of a place (`next_place`, `last_place`).
 use Prim.Native.Nat.{◌-◌, ◌≤◌}
 use mathlib.Core.Path.{refl, subst}
 use native.Mathlib.Omega.{arith}

@@ -1,4 +1,4 @@
--- `mazurlot::answers::say` meets its contract, by the laws `other-writes` and `two-writes-nothing`.
+-- `mazurlot::answers::say` meets its contract, by the laws `other_writes` and `two_writes_nothing`.
 use mathlib.Core.Path.{refl}
 use Rattle.basics.specs.Put.{put_all}
 use Rattle.mazurlot.proofs.Laws.{two_writes_nothing, other_writes}

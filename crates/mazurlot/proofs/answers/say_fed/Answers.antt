@@ -1,4 +1,4 @@
--- `mazurlot::answers::say_fed` meets its contract, by that of `say`, and by the definition of `ofFeed`.
+-- `mazurlot::answers::say_fed` meets its contract, by that of `say`, and by the definition of `of_feed`.
 use Rattle.mazurlot.specs.Answers.{of_feed}
 use Rattle.mazurlot.proofs.answers.say_fed.Goals as goal
 

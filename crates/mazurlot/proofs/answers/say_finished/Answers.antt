@@ -1,4 +1,4 @@
--- `mazurlot::answers::say_finished` meets its contract, by that of `say`, and by the definition of `ofFinish`.
+-- `mazurlot::answers::say_finished` meets its contract, by that of `say`, and by the definition of `of_finish`.
 use Rattle.mazurlot.specs.Answers.{of_finish}
 use Rattle.mazurlot.proofs.answers.say_finished.Goals as goal
 

@@ -1,4 +1,4 @@
--- `mazurlot::answers::say_found` meets its contract, by those of `record_at` and `put_leaf`, and by the laws `other-writes` and `two-writes-nothing`.
+-- `mazurlot::answers::say_found` meets its contract, by those of `record_at` and `put_leaf`, and by the laws `other_writes` and `two_writes_nothing`.
 use mathlib.Core.Path.{◌≡◌, refl, ap, subst, ◌∙◌}
 use native.Mathlib.Omega.{arith}
 use Prim.Native.Nat.{◌+◌, ◌/◌}

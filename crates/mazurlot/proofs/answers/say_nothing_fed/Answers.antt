@@ -1,4 +1,4 @@
--- `mazurlot::answers::say_nothing_fed` meets its contract, by that of `say`, and by the law `two-writes-nothing`.
+-- `mazurlot::answers::say_nothing_fed` meets its contract, by that of `say`, and by the law `two_writes_nothing`.
 use mathlib.Core.Path.{refl}
 use borrow.Author.Tests.{lt-ltb, le-ltb}
 use Rattle.basics.specs.Choose.{pick}

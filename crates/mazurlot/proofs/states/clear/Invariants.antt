@@ -1,4 +1,4 @@
--- `mazurlot::states::clear` meets its contract, by the law `clear-more`.
+-- `mazurlot::states::clear` meets its contract, by the law `clear_more`.
 use Prim.Native.Nat.{ℕ, ◌-◌, ◌≤◌}
 use mathlib.Core.Path.{◌≡◌, refl, sym, ap, ◌∙◌}
 use lib.ListN.{length, replicate, length-set}

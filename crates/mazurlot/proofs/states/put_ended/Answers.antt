@@ -15,7 +15,6 @@ use Rattle.mazurlot.proofs.states.put_ended.Goals as goal
 many : (c : After-clear) → length c.clear.new.numbers ≡ state_numbers
 many c = ap (λ (l : List ℕ). length l) c.clear.ensures ∙ put_length c.args.numbers.now 32 (replicate 25 0) ∙ c.requires
 
-
 pub bounds-numbers-0 : goal.bounds-numbers-0
 bounds-numbers-0 c =
     let k = (goal.at.bounds-numbers-0 c).After-clear in

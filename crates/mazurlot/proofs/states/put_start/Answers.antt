@@ -1,4 +1,4 @@
--- `mazurlot::states::put_start` meets its contract, by those of `brand_bytes`, `start` and `pack`, and by the law `packed-in`.
+-- `mazurlot::states::put_start` meets its contract, by those of `brand_bytes`, `start` and `pack`, and by the law `packed_in`.
 use mathlib.Core.Path.{ap, ◌∙◌}
 use Rattle.state.specs.Calls.{start_of}
 use Rattle.numbered.specs.Numbers.{numbers_of}

@@ -1,5 +1,5 @@
--- `mazurlot::states::say_ending` meets its contract, by those of the functions that put a state and of `say`, and by the definitions of `endingOut`
--- and `ofFinish`.
+-- `mazurlot::states::say_ending` meets its contract, by those of the functions that put a state and of `say`, and by the definitions of `ending_out`
+-- and `of_finish`.
 use Rattle.numbered.specs.Numbers.{used_numbers, padded}
 use Rattle.whole.specs.Views.{ending_out}
 use Rattle.mazurlot.specs.Answers.{of_finish}
