@@ -1,26 +1,26 @@
 -- The descent at a position of the bytes: a field, bytes that are not looked at, and a box, from what the code answers there.
 use Prim.Native.Nat.{ℕ, suc, ◌+◌, ◌-◌, ◌*◌, ◌≤◌, ◌<◌}
 use mathlib.Core.Path.{◌≡◌, refl, ap, sym, ◌∙◌}
-use mathlib.Core.List.{List, [], ◌∷◌, ◌++◌, append_assoc}
+use mathlib.Core.List.{List, ◌++◌, append_assoc}
 use mathlib.Core.Bool.{Bool, true, false}
 use mathlib.Core.Logic.{◌⊎◌, inl, inr}
 use native.Mathlib.Omega.{arith}
 use lib.Dec.{eqb, ltb, leb}
 use lib.ListN.{length, drop, get_or, length-drop, drop_of_length-le}
 use lib.Seq.{drop-cons, drop-drop}
-use borrow.Author.Tests.{ltb-true, ltb-false, lt-ltb, le-ltb, lt-leb, le-leb}
+use borrow.Author.Tests.{lt-ltb, le-ltb, lt-leb, le-leb}
 use Rattle.basics.specs.Choose.{pick}
 use Rattle.basics.proofs.Picks.{lt_or_ge, pick_both, pick_with, pick_yes, pick_no}
 use Rattle.machine.specs.Faults.{refusal, shows, unless}
 use Rattle.machine.specs.Run.{Res, okay, fail, cut, either, after, field_d, plain, skip_d}
-use Rattle.machine.specs.Heads.{under_eight, under_sixteen, size_faults, header, sized_d, head_d}
+use Rattle.machine.specs.Heads.{under_eight, header, sized_d, head_d}
 use Rattle.machine.specs.Lists.{Kind, box_d, faults_of}
 use Rattle.machine.specs.declared.Header.{Header}
 use Rattle.machine.specs.declared.Refusal.{Refusal}
 use Rattle.machine.proofs.Fields.{field_take, field_short, skip_take, skip_short}
 use Rattle.machine.proofs.Lowest.{AtMostEach, lower_each, unless_one, unless_first}
 use Rattle.fields.specs.Answers.{number_at, field_at, checked_at, large_at, head_at}
-use Rattle.fields.specs.Onward.{placed, ended, from, on_field, on_head}
+use Rattle.fields.specs.Onward.{ended, from, on_field, on_head}
 use Rattle.fields.specs.declared.HeadRead.{HeadRead}
 use Rattle.fields.specs.declared.HeadRead.TheVariants as head
 

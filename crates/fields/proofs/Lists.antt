@@ -1,6 +1,6 @@
 -- A list of boxes at a position of the bytes: what its next box makes of it, with as many turns as there are bytes left; and that a
 -- header's fault lists no leaf.
-use Prim.Native.Nat.{ℕ, zero, suc, ◌+◌, ◌-◌, ◌≤◌, ◌<◌}
+use Prim.Native.Nat.{ℕ, zero, suc, ◌+◌, ◌-◌, ◌≤◌}
 use mathlib.Core.Path.{◌≡◌, refl, ap, sym, subst, ◌∙◌}
 use mathlib.Core.List.{List, []}
 use native.Mathlib.Omega.{arith}
@@ -8,13 +8,13 @@ use lib.Dec.{eqb, ltb, leb}
 use lib.ListN.{length, drop, drop_of_length-le}
 use Rattle.basics.proofs.Picks.{pick_holds}
 use Rattle.machine.specs.Faults.{refusal, lowest, unless}
-use Rattle.machine.specs.Run.{Res, okay, fail, cut, either, after}
+use Rattle.machine.specs.Run.{Res, fail, cut, either}
 use Rattle.machine.specs.Heads.{head_d}
 use Rattle.machine.specs.Lists.{Boxes, box_d, go_on_d, boxes_d}
 use Rattle.machine.specs.declared.Header.{Header}
 use Rattle.machine.proofs.Lowest.{AtMostEach}
 use Rattle.fields.specs.Answers.{number_at, checked_at, large_at, head_at}
-use Rattle.fields.specs.Onward.{placed, ended, from, on_head}
+use Rattle.fields.specs.Onward.{placed, ended, on_head}
 use Rattle.fields.specs.declared.HeadRead.{HeadRead}
 use Rattle.fields.specs.declared.HeadRead.TheVariants as head
 use Rattle.fields.specs.declared.Stop.{Stop}

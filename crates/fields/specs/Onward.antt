@@ -1,7 +1,7 @@
 -- What an answer of the code makes of a reading by structure: the lent bytes start at the place `base`, and `f` flows through the reading.
 use Rattle.std.specs.Prelude.{ℕ, ◌+◌, List, length, drop}
 use Rattle.machine.specs.Faults.{refusal}
-use Rattle.machine.specs.Run.{Res, okay, fail, cut}
+use Rattle.machine.specs.Run.{Res, fail, cut}
 use Rattle.machine.specs.Heads.{header}
 use Rattle.machine.specs.declared.Header.{Header}
 use Rattle.fields.specs.declared.FieldRead.{FieldRead}

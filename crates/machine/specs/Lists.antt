@@ -1,5 +1,5 @@
 -- A box over any body, and a list of boxes over any box; byte by byte, and by structure.
-use Rattle.std.specs.Prelude.{ℕ, zero, suc, ◌+◌, List, ◌++◌}
+use Rattle.std.specs.Prelude.{ℕ, zero, suc, List, ◌++◌}
 use Rattle.machine.specs.Faults.{unless, lowest}
 use Rattle.machine.specs.Run.{Sub, go, done, bad, lift, Res, okay, fail, cut, either, after}
 use Rattle.machine.specs.Heads.{size_faults, step_head, head_d}

@@ -1,5 +1,5 @@
 -- `fields::number_at` meets its contract, by those of `wide`, `pair_at`, `word_at` and `long_at`, and by the laws `width_one` and `last_width`.
-use Prim.Native.Nat.{◌+◌, ◌<◌, ◌≤◌}
+use Prim.Native.Nat.{◌<◌}
 use mathlib.Core.Path.{sym, ◌∙◌}
 use lib.ListN.{length}
 use native.Mathlib.Omega.{arith}

@@ -1,5 +1,5 @@
 -- `records::no_room` meets its contract, by the laws `room_over` and `room_by`.
-use mathlib.Core.Path.{sym, ap, ◌∙◌}
+use mathlib.Core.Path.{sym}
 use Rattle.records.proofs.Laws.{room_over, room_by}
 use Rattle.records.proofs.no_room.Goals as goal
 

@@ -27,6 +27,6 @@ returns c = let i = c.loop-i.i in
     let s = c.args in
     alike_all s.a.now s.b.now i c.loop-i.invariant.2
     (elim c.loop-i-test.branch [
-      then-loop-i-test+else-i-b w ↦ inl w.if-i-b.false
-    | else-loop-i-test w ↦ inr w.loop-i-test.false
+      | then-loop-i-test+else-i-b w ↦ inl w.if-i-b.false
+      | else-loop-i-test w ↦ inr w.loop-i-test.false
     ])

@@ -29,7 +29,7 @@ returns c = let i = c.loop-i.i in
     let s = c.args in
     alike_first s.v.now s.w.now i inv.3 s.n inv.2
     (elim c.loop-i-test.branch [
-      then-loop-i-test+then-i-w+else-i-n w ↦ inl w.if-i-n.false
-    | then-loop-i-test+else-i-w w ↦ inr (inl w.if-i-w.false)
-    | else-loop-i-test w ↦ inr (inr w.loop-i-test.false)
+      | then-loop-i-test+then-i-w+else-i-n w ↦ inl w.if-i-n.false
+      | then-loop-i-test+else-i-w w ↦ inr (inl w.if-i-w.false)
+      | else-loop-i-test w ↦ inr (inr w.loop-i-test.false)
     ])

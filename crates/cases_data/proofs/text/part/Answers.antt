@@ -13,6 +13,6 @@ pub returns : goal.returns
 unfolding bytes_from pick
 returns c =
     elim c.if-to-text.branch [
-      then-to-text+else-from-to w ↦ simp (le-leb _ _ w.if-to-text.true, lt-leb _ _ w.if-from-to.false)
-    | else-to-text w ↦ simp (lt-leb _ _ w.if-to-text.false)
+      | then-to-text+else-from-to w ↦ simp (le-leb _ _ w.if-to-text.true, lt-leb _ _ w.if-from-to.false)
+      | else-to-text w ↦ simp (lt-leb _ _ w.if-to-text.false)
     ]
