@@ -1,5 +1,5 @@
 -- One piece more of a reading in pieces: what is held, and what was answered, so far and in the rest.
-use Rattle.std.proofs.Common.{◌≡◌, ℕ, zero, suc, ◌+◌, ◌-◌, ◌<◌, ◌≤◌, min, Bool, true, false, ◌&&◌, ◌↔◌, List, length, sym, refl, ap, ◌∙◌, subst, arith}
+use Rattle.std.proofs.Common.{◌≡◌, ℕ, suc, ◌+◌, ◌-◌, ◌<◌, min, Bool, true, ◌&&◌, ◌↔◌, List, length, sym, refl, ap, ◌∙◌, subst, arith}
 use native.Mathlib.Nat.{sub-zero}
 use Rattle.basics.proofs.Tests.{and_both}
 use Rattle.state.specs.Calls.{Out}

@@ -1,9 +1,7 @@
 -- A segment read in pieces, by the definitions of start, feed and finish; and when that is alike to an end.
 use Rattle.std.specs.Prelude.{◌≡◌, ℕ, zero, suc, ◌+◌, min, Bool, true, ◌↔◌, List, length}
-use Rattle.state.specs.Calls.{Out, start_of, feed_of, finish_of}
+use Rattle.state.specs.Calls.{start_of, finish_of}
 use Rattle.state.specs.Cutting.{Held, held, held_after, feed_held}
-use Rattle.state.specs.declared.State.{State}
-use Rattle.state.specs.declared.FeedAnswer.{FeedAnswer}
 use Rattle.cases_data.specs.Lent.{msdh}
 use Rattle.cases_data.specs.Parts.{bytes_from, SameLevels, SameNumbers}
 use Rattle.cases_trial.specs.Ends.{end_of, answer_at}

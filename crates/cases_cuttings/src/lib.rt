@@ -117,7 +117,8 @@ fn pieces_alike(segment: &[u8], length: usize, end: End, work: &[u8], table: &[u
     };
     let ends = reads_alike(segment, cut, end, &mut own_work, &mut own_table);
     let works = same_bytes(&own_work, work);
-    ends && works && same_numbers(&own_table, table, 1536)
+    let both = ends && works;
+    both && same_numbers(&own_table, table, 1536)
 }
 
 // One cut, with buffers of its own that are made as they were again. Of a short segment no entry lies beyond its length in a
@@ -144,7 +145,8 @@ fn cut_alike(
     let tables = same_numbers(own_table, table, n);
     fill_levels(own_work, n);
     fill_numbers(own_table, n);
-    ends && works && tables
+    let both = ends && works;
+    both && tables
 }
 
 fn print_cut(rt: &impl Print, alike: bool, at: u64) {
