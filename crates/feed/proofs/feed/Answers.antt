@@ -26,7 +26,7 @@ returns-then-in_range c =
     let a = c.args in
     record {
       fed = feeds_inside a.s a.piece.now a.work.now a.table.now _ _ _ _ c.if-work-lt-WORK_BYTES.false (sym c.in_range.ensures ∙ c.if-in_range.true)
-      c.answer_for.ensures c.feed_bytes-next.ensures;
+          c.answer_for.ensures c.feed_bytes-next.ensures;
       bytes = each_byte_all a.piece.now (λ i. (c.type_inv.piece i).fits);
     }
 
@@ -36,6 +36,6 @@ returns c =
     let a = c.args in
     record {
       fed = feeds_outside a.s a.piece.now a.work.now a.table.now _ _ c.if-work-lt-WORK_BYTES.false (sym c.in_range.ensures ∙ c.if-in_range.false)
-      c.turned_away-2.ensures;
+          c.turned_away-2.ensures;
       bytes = each_byte_all a.piece.now (λ i. (c.type_inv.piece i).fits);
     }
