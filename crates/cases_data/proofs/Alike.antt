@@ -22,10 +22,6 @@ both_taken r s x p q e k = (λ t. (p.0 e, q.0 (sym k ∙ t)), λ w. k ∙ q.1 w.
 pub both_left : {P Q : Type 0} (r x : Bool) → ((r ≡ true) ↔ P) → r ≡ false → x ≡ false → (x ≡ true) ↔ (P × Q)
 both_left r x p e k = (λ t. absurd (false≢true (sym k ∙ t)), λ w. absurd (true≢false (sym (p.1 w.0) ∙ e)))
 
--- a test of two numbers
-pub equal : (m n : ℕ) → (eqb m n ≡ true) ↔ (m ≡ n)
-equal m n = (eqb-true m n, eq-eqb m n)
-
 -- two lists that are alike so far and at the next place are alike up to the one after it
 pub alike_more : (a b : List ℕ) (i : ℕ) → i < length a → i < length b → get_or a i 0 ≡ get_or b i 0 → take i a ≡ take i b → take (i + 1) a ≡ take (i + 1) b
 alike_more a b i h k e t = rw (add-one, take-suc a i 0, take-suc b i 0, t, e)

@@ -11,10 +11,12 @@ use Rattle.cases_data.proofs.buffers.level_part.Goals as goal
 
 pub returns-then-level-lt4 : goal.returns-then-level-lt4
 unfolding level_part pick
-returns-then-level-lt4 c = let n = c.args.n in
+returns-then-level-lt4 c =
+    let n = c.args.n in
     simp (lt-ltb _ _ c.if-level-lt4.true) (c.part-then-level-lt4.ensures ∙ ap (λ (l : List ℕ). bytes_from l 0 n) c.part.ensures)
 
 pub returns : goal.returns
 unfolding level_part bytes_from pick
-returns c = let w = c.args.work.now in
+returns c =
+    let w = c.args.work.now in
     simp (le-ltb _ _ c.if-level-lt4.false) (c.part-2.ensures ∙ simp (le-leb 0 (length w) (omega arith)))

@@ -11,11 +11,13 @@ use Rattle.cases_data.proofs.buffers.same_bytes.Goals as goal
 use Rattle.cases_data.proofs.buffers.same_bytes.Goals.{then-loop-i-test+else-i-b, else-loop-i-test}
 
 pub returns-then-a-i : goal.returns-then-a-i
-returns-then-a-i c = let i = c.loop-i.i in
+returns-then-a-i c =
+    let i = c.loop-i.i in
     never (λ same. c.if-a-i.true (ap (λ (l : List ℕ). get_or l i 0) same))
 
 pub loop-i-preserved : goal.loop-i-preserved
-loop-i-preserved c = let i = c.loop-i.i in
+loop-i-preserved c =
+    let i = c.loop-i.i in
     let inv = c.loop-i.invariant in
     let s = c.args in
     let h : i < length s.a.now = omega (arith, ltb-true) in
@@ -23,7 +25,8 @@ loop-i-preserved c = let i = c.loop-i.i in
     (omega arith, omega arith, alike_more s.a.now s.b.now i h k c.if-a-i.false inv.2)
 
 pub returns : goal.returns
-returns c = let i = c.loop-i.i in
+returns c =
+    let i = c.loop-i.i in
     let s = c.args in
     alike_all s.a.now s.b.now i c.loop-i.invariant.2
     (elim c.loop-i-test.branch [

@@ -9,13 +9,15 @@ use Rattle.cases_data.proofs.buffers.same_numbers.Goals as goal
 use Rattle.cases_data.proofs.buffers.same_numbers.Goals.{then-loop-i-test+then-i-w+else-i-n, then-loop-i-test+else-i-w, else-loop-i-test}
 
 pub returns-then-v-i : goal.returns-then-v-i
-returns-then-v-i c = let i = c.loop-i.i in
+returns-then-v-i c =
+    let i = c.loop-i.i in
     let s = c.args in
     let h : i < s.n = omega (arith, ltb-true) in
     never (unlike_first s.v.now s.w.now s.n i h c.if-v-i.true)
 
 pub loop-i-preserved : goal.loop-i-preserved
-loop-i-preserved c = let i = c.loop-i.i in
+loop-i-preserved c =
+    let i = c.loop-i.i in
     let inv = c.loop-i.invariant in
     let s = c.args in
     let h : i < length s.v.now = omega (arith, ltb-true) in
@@ -24,7 +26,8 @@ loop-i-preserved c = let i = c.loop-i.i in
     (omega arith, omega arith, omega arith, alike_more s.v.now s.w.now i h k c.if-v-i.false inv.3)
 
 pub returns : goal.returns
-returns c = let i = c.loop-i.i in
+returns c =
+    let i = c.loop-i.i in
     let inv = c.loop-i.invariant in
     let s = c.args in
     alike_first s.v.now s.w.now i inv.3 s.n inv.2

@@ -7,12 +7,14 @@ use Rattle.cases_trial.proofs.alike.answers_at.Goals as goal
 
 pub returns-then-over_by : goal.returns-then-over_by
 unfolding answer_at pick
-returns-then-over_by c = let s = c.args in
+returns-then-over_by c =
+    let s = c.args in
     let h : over_by s.k s.end ≡ true = sym c.over_by.ensures ∙ c.if-over_by.true in
     rw h c.fed_refused.ensures
 
 pub returns : goal.returns
 unfolding answer_at pick
-returns c = let s = c.args in
+returns c =
+    let s = c.args in
     let h : over_by s.k s.end ≡ false = sym c.over_by.ensures ∙ c.if-over_by.false in
     rw h c.fed_read.ensures
