@@ -170,6 +170,7 @@ pub fn same_end(a: End, b: End) -> bool
 }
 
 // How many bytes were read when feed refused a segment that ends so, the byte at fault among them; none where it did not.
+#[tactic(auto, unfolding(crate::specs::Ends::refused_after, basics::specs::Choose::pick))]
 pub fn refused_after(end: End) -> u64
     ensures { result ≡ refused_after end }
 {
