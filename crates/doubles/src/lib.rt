@@ -11,7 +11,7 @@ const INFINITE: u64 = 9218868437227405312;
 // What a sign adds to the bits.
 const SIGN: u64 = 9223372036854775808;
 
-// The language has one not_a_number, without sign or bits: it is made by arithmetic. The two that are made have opposite signs in the
+// The language has one not-a-number, without sign or bits: it is made by arithmetic. The two that are made have opposite signs in the
 // machine; which has which is open.
 fn not_a_number(opposite: bool) -> f64
     ensures { result ≡ nan }

@@ -1,4 +1,4 @@
--- The wrong answers of `read_field` and `read_head` in docs/EDITS.md are others than the contracts allow, each at some bytes: a walk by hand refuses any other code, and so does not tell.
+-- The wrong answers of `read_field` and `read_head` in docs/EDITS.md are others than the contracts allow, each at some bytes.
 use Prim.Native.Nat.{ℕ}
 use mathlib.Core.Path.{◌≡◌, ap}
 use mathlib.Core.List.{List, [], ◌∷◌}

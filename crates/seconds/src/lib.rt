@@ -52,7 +52,7 @@ const NEGATIVE_ZERO: u64 = 9223372036854775808;
 // From the next power on, the lowest digit of a value is 2^13 seconds and its leading one 2^65, which is past all records.
 const MOST_POWER: u64 = 1086;
 
-// Exponent and fraction. A not_a_number is told before its bits are asked for, since it may have any of several.
+// Exponent and fraction. A not-a-number is told before its bits are asked for, since it may have any of several.
 fn parts_of(x: f64) -> Split
     ensures { Splits x result }
 {
