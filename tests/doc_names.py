@@ -18,7 +18,8 @@ import re
 import sys
 
 ROOT = pathlib.Path(__file__).resolve().parent.parent
-DOCS = [ROOT / "README.md", *sorted((ROOT / "docs").glob("**/*.md"))]
+# docs/PORT.md is left out: it names what is no more.
+DOCS = [ROOT / "README.md", *sorted(set((ROOT / "docs").glob("**/*.md")) - {ROOT / "docs/PORT.md"})]
 WORD = re.compile(r"`([^`\n]+)`")
 LIST = r"`[^`\n]+`(?:(?:, | and )`[^`\n]+`)*"
 PLACED = re.compile(rf"`([a-z_]+)`, (?:specs )?`([A-Z]\w*)`, ({LIST})")
