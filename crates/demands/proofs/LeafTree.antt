@@ -256,7 +256,8 @@ leaf_tree id slot f n xs ys k e some' room =
     (length (xs ++ ys)) (leaf_so0 f.last) n xs ys k some' e (omega arith)
     ∙ then_cong (boxes xs) _ _ (λ bs q. leaf_walk_lem id slot f room f.last n bs (λ s. k s f slot.end ys))
     ∙ sym (then_assoc (boxes_of_leaf xs) _ _ ∙ then_assoc (boxes xs) _ _
-    ∙ then_cong (boxes xs) _ _ (λ bs q. then_cong (provided (without (styp ∷ sidx ∷ []) bs) (provided (moof_first bs) (some bs))) _ _ (λ cs q'. then_assoc (gather moof (moof_times id) cs) non_empty _)))
+    ∙ then_cong (boxes xs) _ _ (λ bs q. then_cong (provided (without (styp ∷ sidx ∷ []) bs) (provided (moof_first bs) (some bs))) _ _
+    (λ cs q'. then_assoc (gather moof (moof_times id) cs) non_empty _)))
 
 -- The first time that a leaf shows is the first of its times.
 pub leaf_first : (id last : ℕ) (xs ts : List ℕ) (s : Seen) → leaf_times id xs ≡ some ts → climb (leaf_so0 last).seen ts ≡ some s → s.first ≡ first_time ts

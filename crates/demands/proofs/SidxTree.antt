@@ -298,7 +298,8 @@ rest_facts t xs i r e =
     let (es, p, e5) = then_inv (entries_of (count_here t xs) (at_entries t xs)) _ i e4 in
     facts_of t xs i r es z1 z2 z3 z4 p (cc)
   where
-    facts_of : (t : Bool) (xs : List ℕ) (i : tree.Index) → Rooms t xs → (es : List Entry) → eqb (scale_here t xs) 0 ≡ false → eqb (count_here t xs) 0 ≡ false → ltb most_entries (count_here t xs) ≡ false →
+    facts_of : (t : Bool) (xs : List ℕ) (i : tree.Index) → Rooms t xs → (es : List Entry) → eqb (scale_here t xs) 0 ≡ false →
+        eqb (count_here t xs) 0 ≡ false → ltb most_entries (count_here t xs) ≡ false →
         eqb (length (at_entries t xs)) (entry_bytes * count_here t xs) ≡ true → entries_of (count_here t xs) (at_entries t xs) ≡ some es →
         record { id = id_here t xs; scale = scale_here t xs; time = time_here t xs; offset = offset_here t xs; entries = es } ≡ i → SidxFacts xs i
     facts_of t xs i r es z1 z2 z3 z4 p q =
@@ -591,7 +592,8 @@ module _ {X : Type 0} (p : Place) (span : Span) (h : IndexRead → Flow → ℕ 
       numbers_tree t f n xs ys e r
       ∙ all_tests (clean (id_faults p span (id_here t xs))) (clean (scale_faults p span (scale_here t xs))) (clean (time_faults p span f.now (time_here t xs)))
       (clean (offset_faults p span (offset_here t xs)))
-      (eqb (scale_here t xs) 0) (eqb (count_here t xs) 0) (ltb most_entries (count_here t xs)) (eqb (length (at_entries t xs)) (entry_bytes * count_here t xs)) (entries_of (count_here t xs) (at_entries t xs))
+      (eqb (scale_here t xs) 0) (eqb (count_here t xs) 0) (ltb most_entries (count_here t xs))
+      (eqb (length (at_entries t xs)) (entry_bytes * count_here t xs)) (entries_of (count_here t xs) (at_entries t xs))
       (λ es. clean (sum_faults p span (index_from (tree_index (draft_here t xs) es)) f.now span.end))
       (λ es. h (index_from (tree_index (draft_here t xs) es)) (put_into f (part_of p) (at_entries t xs)) span.end ys) (scale_some p span (scale_here t xs))
       ∙ sym (ap (λ o. and_then o (taken f xs ys)) (sidx_here t xs (time_known (version_here xs) v) r) ∙ taken_here t f xs ys r)

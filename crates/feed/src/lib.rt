@@ -52,7 +52,7 @@ fn advance(s: State, piece: &[u8], i: usize, work: &mut [u8], table: &mut [u64])
 }
 
 // The bytes of a piece: the checks before them are done.
-pub fn feed_bytes(s: State, piece: &[u8], work: &mut [u8], table: &mut [u64]) -> State
+fn feed_bytes(s: State, piece: &[u8], work: &mut [u8], table: &mut [u64]) -> State
     requires { (work_bytes ≤ length work.old) × InRange s }
     ensures { out (answered result) result work.new table.new ≡ feed_state s piece.now work.old table.old }
 {
@@ -67,7 +67,7 @@ pub fn feed_bytes(s: State, piece: &[u8], work: &mut [u8], table: &mut [u64]) ->
 }
 
 // What feed answers of the state that it leaves.
-pub fn answer_for(s: State) -> FeedAnswer
+fn answer_for(s: State) -> FeedAnswer
     ensures { result ≡ answered s }
 {
     match s {

@@ -11,6 +11,7 @@ use state::{
 };
 
 // Where the skipped body ends, at each level; 0 where none is being skipped.
+#[tactic(auto, unfolding(state::specs::Jump::traf_skips, state::specs::Jump::traf_body_skips))]
 fn traf_skips(s: TrafBoxes) -> u64
     ensures { result ≡ traf_skips s }
 {
@@ -28,6 +29,7 @@ fn traf_skips(s: TrafBoxes) -> u64
     }
 }
 
+#[tactic(auto, unfolding(state::specs::Jump::moof_skips, state::specs::Jump::moof_body_skips))]
 fn moof_skips(s: MoofBoxes) -> u64
     ensures { result ≡ moof_skips s }
 {
@@ -40,6 +42,7 @@ fn moof_skips(s: MoofBoxes) -> u64
     }
 }
 
+#[tactic(auto, unfolding(state::specs::Jump::leaf_skips, state::specs::Jump::leaf_body_skips))]
 pub fn leaf_skips(s: LeafBoxes) -> u64
     ensures { result ≡ leaf_skips s }
 {
@@ -52,6 +55,7 @@ pub fn leaf_skips(s: LeafBoxes) -> u64
     }
 }
 
+#[tactic(auto, unfolding(state::specs::Jump::opening_skips, state::specs::Jump::opening_body_skips))]
 fn opening_skips(s: OpeningBoxes) -> u64
     ensures { result ≡ opening_skips s }
 {
@@ -71,6 +75,7 @@ fn opening_skips(s: OpeningBoxes) -> u64
     }
 }
 
+#[tactic(auto, unfolding(state::specs::Jump::gap_skips))]
 fn gap_skips(s: GapBoxes) -> u64
     ensures { result ≡ gap_skips s }
 {
@@ -80,6 +85,7 @@ fn gap_skips(s: GapBoxes) -> u64
     }
 }
 
+#[tactic(auto, unfolding(state::specs::Jump::skips))]
 fn stage_skips(s: Stage) -> u64
     ensures { result ≡ skips s }
 {
@@ -129,6 +135,7 @@ fn passing_bytes(s: Stage, n: u64, rest: u64) -> u64
 }
 
 // Of so many bytes at hand, how many pass at once.
+#[tactic(auto, unfolding(crate::specs::Passes::passes))]
 pub fn passing_now(s: State, rest: u64) -> u64
     ensures { result ≡ passes s rest }
 {
@@ -159,6 +166,7 @@ pub fn passing_now(s: State, rest: u64) -> u64
 }
 
 // So many bytes of a skipped body are passed: only the count goes on.
+#[tactic(auto, unfolding(crate::specs::Passes::passed_on, crate::specs::Passes::Fitting))]
 pub fn pass(s: State, k: u64) -> State
     requires { Fitting s k }
     ensures { result ≡ passed_on s k }

@@ -38,7 +38,8 @@ use Rattle.state.specs.Flow.{Flow, Left, left}
 use Rattle.state.specs.Rows.{is}
 use Rattle.state.specs.Opening.{span_of}
 use Rattle.state.specs.Traf.{Gave, nothing, headed, tfdt_version_faults, reference, traf_ends, begin_traf, step_traf_body, traf_next, traf_boxes, wrap_traf, step_traf, traf_so0, begin_traf_boxes}
-use Rattle.state.specs.Leaf.{Passed, skipped, seeing, begin_moof, step_moof_body, moof_next, moof_boxes, wrap_moof, step_moof, begin_moof_boxes, begin_leaf, step_leaf_body, leaf_boxes, wrap_leaf, step_leaf, leaf_so0}
+use Rattle.state.specs.Leaf.{Passed, skipped, seeing, begin_moof, step_moof_body, moof_next, moof_boxes, wrap_moof}
+use Rattle.state.specs.Leaf.{step_moof, begin_moof_boxes, begin_leaf, step_leaf_body, leaf_boxes, wrap_leaf, step_leaf, leaf_so0}
 use Rattle.descent.specs.Leaf.{tfhd_d, width_d, tfdt_d, traf_body_d, traf_d, moof_body_d, moof_d, leaf_body_d, leaf_d}
 
 module _ (id : ℕ) (t : TrafPhase) where

@@ -77,7 +77,8 @@ pub gap_consumed : (offset : ℕ) (f : Flow) (n : ℕ) (bs : List ℕ) (u : Unit
 unfolding gap_d pick
 gap_consumed offset f n bs u g m cs e = by (eqb offset 0) e
   where
-    by : (t : Bool) → pick t (okay tt f n bs) (boxes_d (gap_boxes (n + offset)) (λ v h g' m' cs'. skip_to tt (box_end h) g' m' cs') (length bs) tt f n bs) ≡ okay u g m cs → m + length cs ≡ n + length bs
+    by : (t : Bool) → pick t (okay tt f n bs) (boxes_d (gap_boxes (n + offset)) (λ v h g' m' cs'. skip_to tt (box_end h) g' m' cs') (length bs) tt f n bs) ≡ okay u g m cs →
+        m + length cs ≡ n + length bs
     by true q = let a : n ≡ m = cc in let b : bs ≡ cs = cc in rw (a, b)
     by false q = consumed_run left (step_gap (n + offset)) (gaps.Head at.First) f n bs u g m cs (sym (gap_run (n + offset) f n bs) ∙ q)
 
@@ -142,7 +143,8 @@ inner_steps top ls slot (in_body s) f n b = refl
 in_inner : (top : Top) (ls : Levels) (slot : Slot) (n : ℕ) (bs : List ℕ) (r : Sub (BoxPhase InnerBody) IndexRead Flow Left) →
     S n bs (lift_inner top ls slot r) ≡ after (cont left (step_box (inner_kind top slot (depth ls))) n bs r) (λ x g m cs. S m cs (follow top (push ls (inner_level x slot)) g))
 in_inner top ls slot n bs r =
-    inside left (step_box (inner_kind top slot (depth ls))) step_stage (λ s. stage.Inner top ls slot (wrap_inner s)) (λ m x g. follow top (push ls (inner_level x slot)) g) (inner_steps top ls slot) n bs r
+    inside left (step_box (inner_kind top slot (depth ls))) step_stage (λ s. stage.Inner top ls slot (wrap_inner s))
+    (λ m x g. follow top (push ls (inner_level x slot)) g) (inner_steps top ls slot) n bs r
 
 -- The open indexes around the innermost one that still have an entry to come.
 unfoldable pub outer_open : Levels → Option Levels

@@ -60,7 +60,8 @@ module _ (p : Place) (span : Span) where
   one_entry d s more law f n bs =
       word entry.Size d s _
       (λ v g m cs. unless_both (λ r. r) (X m cs) _ _ _ _ (entry_size_faults span v) (λ x. refl)
-      (word entry.Duration d (plus_size s v) _ (λ u h k ds. word entry.Sap d (plus_duration (plus_size s v) u) _ (λ sap i l es. law (plus_duration (plus_size s v) u) i l es refl refl sap) h k ds) g m cs))
+      (word entry.Duration d (plus_size s v) _ (λ u h k ds. word entry.Sap d (plus_duration (plus_size s v) u) _
+      (λ sap i l es. law (plus_duration (plus_size s v) u) i l es refl refl sap) h k ds) g m cs))
       f n bs
 
   entries : (d : Draft) (k : ℕ) (s : Sums) → k + suc s.next ≡ s.count → (f : Flow) (n : ℕ) (bs : List ℕ) → entries_d p span d k s f n bs ≡ X n bs (go (sidx.Entry entry.Size d s 3 0) f)

@@ -12,7 +12,8 @@ ghost use Rattle.header.specs.Views.{view_head, after_body, after_header, after_
 ghost use Rattle.flaws.specs.Flaws.{flaw_of};
 ghost use Rattle.state.specs.Flow.{Flow, left};
 ghost use Rattle.state.specs.Rows.{no_room, leaf_faults};
-ghost use Rattle.state.specs.Leaf.{seen_now, skip_moof, lift_traf, begin_moof, step_moof_body, moof_next, moof_boxes, wrap_moof, step_moof, skip_leaf, lift_moof, begin_leaf, step_leaf_body, leaf_now, leaf_lacks};
+ghost use Rattle.state.specs.Leaf.{seen_now, skip_moof, lift_traf, begin_moof, step_moof_body, moof_next, moof_boxes};
+ghost use Rattle.state.specs.Leaf.{wrap_moof, step_moof, skip_leaf, lift_moof, begin_leaf, step_leaf_body, leaf_now, leaf_lacks};
 ghost use Rattle.state.specs.Leaf.{leaf_next, leaf_boxes, wrap_leaf, step_leaf};
 ghost use Rattle.state.specs.Ranges.{Within, moof_body_bounds, moof_bounds, leaf_body_bounds, leaf_bounds};
 ghost use Rattle.traf.specs.Views.{view_traf};

@@ -61,6 +61,7 @@ fn head_number(h: Head) -> AtHand
     }
 }
 
+#[tactic(auto, unfolding(state::specs::Numbers::head_number))]
 fn head_again(h: Head, more: u64, acc: u64) -> Head
     ensures { result ≡ (head_number h).again more acc }
 {
@@ -306,6 +307,7 @@ fn gap_number(s: GapBoxes) -> AtHand
     }
 }
 
+#[tactic(auto, unfolding(state::specs::Numbers::gap_number))]
 fn gap_again(s: GapBoxes, more: u64, acc: u64) -> GapBoxes
     ensures { result ≡ (gap_number s).again more acc }
 {
@@ -375,6 +377,7 @@ fn in_leaf(top: Top, levels: Levels, slot: Slot, boxes: LeafBoxes) -> Stage
 }
 
 // The stage with its number read so far that `more` bytes follow the next one and those before it spell `acc`.
+#[tactic(auto, unfolding(state::specs::Numbers::stage_number))]
 pub fn stage_again(s: Stage, more: u64, acc: u64) -> Stage
     ensures { result ≡ (stage_number s).again more acc }
 {

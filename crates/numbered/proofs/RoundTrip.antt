@@ -61,7 +61,8 @@ use Rattle.numbered.specs.Numbers.{index_part_number, entry_part_number, sidx_nu
 use Rattle.numbered.specs.Numbers.{traf_phase_numbers, traf_so_numbers, traf_part_numbers, traf_body_numbers, traf_numbers, moof_body_numbers, moof_numbers, leaf_body_numbers}
 use Rattle.numbered.specs.Numbers.{leaf_so_numbers, leaf_numbers, stage_numbers, used_numbers, numbers_of}
 use Rattle.numbered.specs.Blocks.{of_two, of_three, of_four, of_five, seen_of, draft_of, levels_of, head_of, index_part_of, entry_part_of, sidx_of, styp_part_of, opening_body_of}
-use Rattle.numbered.specs.Blocks.{opening_of, gap_of, inner_of, traf_phase_of, traf_so_of, traf_part_of, traf_body_of, traf_of, moof_body_of, moof_of, leaf_body_of, leaf_so_of, leaf_of, stage_of, state_of}
+use Rattle.numbered.specs.Blocks.{opening_of, gap_of, inner_of, traf_phase_of, traf_so_of, traf_part_of, traf_body_of}
+use Rattle.numbered.specs.Blocks.{traf_of, moof_body_of, moof_of, leaf_body_of, leaf_so_of, leaf_of, stage_of, state_of}
 
 flag_back : (b : Bool) → eqb (flag_number b) 1 ≡ b
 unfolding flag_number pick

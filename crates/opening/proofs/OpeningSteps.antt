@@ -23,7 +23,8 @@ use Rattle.state.specs.declared.EntryPart.{EntryPart}
 use Rattle.state.specs.declared.EntryPart.TheVariants as entry
 use Rattle.state.specs.declared.OpeningBody.TheVariants as body
 use Rattle.state.specs.Flow.{Flow, Left, with_now}
-use Rattle.state.specs.Sidx.{topmost, sidx_version_faults, id_faults, scale_faults, time_faults, offset_faults, count_faults, sum_faults, entry_size_faults, index_of, close_sidx, field_ends, entry_ends, keep_byte}
+use Rattle.state.specs.Sidx.{topmost, sidx_version_faults, id_faults, scale_faults, time_faults, offset_faults, count_faults}
+use Rattle.state.specs.Sidx.{sum_faults, entry_size_faults, index_of, close_sidx, field_ends, entry_ends, keep_byte}
 use Rattle.state.specs.Sidx.{step_sidx}
 use Rattle.state.specs.Calls.{flow_of}
 use Rattle.state.specs.Opening.{indexed, begin_opening, skip_opening, step_opening_body}

@@ -45,7 +45,8 @@ over_more old by i h k =
     let e : i ≡ 0 + i = omega arith in
     let f : i + 1 ≡ 0 + suc i = omega arith in
     let g : suc i ≡ i + 1 = omega arith in
-    ap (λ n. set (take i by ++ drop n old) n (get_or by i 0)) e ∙ paste-suc old 0 by i 0 (omega arith) k ∙ ap (λ n. take n by ++ drop (0 + suc i) old) g ∙ ap (λ n. take (i + 1) by ++ drop n old) (sym f)
+    ap (λ n. set (take i by ++ drop n old) n (get_or by i 0)) e ∙ paste-suc old 0 by i 0 (omega arith) k
+    ∙ ap (λ n. take n by ++ drop (0 + suc i) old) g ∙ ap (λ n. take (i + 1) by ++ drop n old) (sym f)
 
 pub over_all : (old by : List ℕ) (i : ℕ) → length old ≤ i → length by ≤ i → take i by ++ drop i old ≡ by
 over_all old by i h k = rw (drop_of_length-le old h, take_all i by k) (append-nil by)

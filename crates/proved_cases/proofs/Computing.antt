@@ -46,7 +46,8 @@ unfolding
     Boxes.among Boxes.field Boxes.words Boxes.box_of Boxes.first_box Boxes.cut_boxes Boxes.only Boxes.without Boxes.styp_brands
     Boxes.entry_of Boxes.entries_of Boxes.sizes Boxes.durations Boxes.time_bytes Boxes.sidx_index Boxes.tfhd_track Boxes.tfdt_time
     Leaves.moof_first Leaves.boxes_of_leaf Leaves.head_and_time Leaves.traf_times Leaves.gather Leaves.moof_times Leaves.non_empty Leaves.leaf_times Leaves.never_fall
-    Tree.open_index Tree.first_index Tree.top_index Tree.boxes_of_gap Tree.material Tree.first_time Tree.entry_parts Tree.tile Tree.suits_entry Tree.inner_index Tree.under_index Tree.times_in Tree.leaves_in
+    Tree.open_index Tree.first_index Tree.top_index Tree.boxes_of_gap Tree.material
+    Tree.first_time Tree.entry_parts Tree.tile Tree.suits_entry Tree.inner_index Tree.under_index Tree.times_in Tree.leaves_in
     Tree.segment_parts Tree.segment
 the_tree = tt
 

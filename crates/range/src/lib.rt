@@ -116,6 +116,7 @@ fn head_fits(h: Head) -> bool
     }
 }
 
+#[tactic(auto, unfolding(state::specs::Ranges::traf_most))]
 fn traf_most(p: TrafPart) -> u64
     ensures { result ≡ traf_most p }
 {
@@ -186,6 +187,7 @@ fn leaf_fits(s: LeafBoxes) -> bool
     }
 }
 
+#[tactic(auto, unfolding(state::specs::Sidx::wide_more))]
 fn wide_most(wide: bool) -> u64
     ensures { result ≡ wide_more wide }
 {
@@ -195,6 +197,7 @@ fn wide_most(wide: bool) -> u64
     3
 }
 
+#[tactic(auto, unfolding(state::specs::Ranges::index_most))]
 fn index_most(p: IndexPart, wide: bool) -> u64
     ensures { result ≡ index_most p wide }
 {
@@ -210,6 +213,7 @@ fn index_most(p: IndexPart, wide: bool) -> u64
     }
 }
 
+#[tactic(auto, unfolding(state::specs::Ranges::scale_least))]
 fn scale_least(p: IndexPart) -> u64
     ensures { result ≡ scale_least p }
 {
@@ -235,6 +239,7 @@ fn draft_fits(least: u64, d: Draft) -> bool
 }
 
 // The entries whose size is in the sum.
+#[tactic(auto, unfolding(state::specs::Ranges::sizes_read))]
 fn sizes_summed(e: EntryPart, next: u64) -> u64
     requires { next < 1024 }
     ensures { result ≡ sizes_read e next }
@@ -247,6 +252,7 @@ fn sizes_summed(e: EntryPart, next: u64) -> u64
 }
 
 // The entries whose duration is in the sum.
+#[tactic(auto, unfolding(state::specs::Ranges::durations_read))]
 fn durations_summed(e: EntryPart, next: u64) -> u64
     requires { next < 1024 }
     ensures { result ≡ durations_read e next }

@@ -76,12 +76,14 @@ use Rattle.state.specs.Sidx as indexes
 use Rattle.state.specs.Sidx.{Place, topmost, under, sum_faults, index_of, close_sidx, field_ends, entry_ends, keep_byte, step_sidx}
 use Rattle.state.specs.Traf as traffic
 use Rattle.state.specs.Traf.{nothing, traf_ends, begin_traf, step_traf_body, traf_kind, traf_boxes, wrap_traf, traf_next, traf_so0, step_traf, begin_traf_boxes}
-use Rattle.state.specs.Leaf.{skipped, seeing, begin_moof, step_moof_body, moof_kind, moof_next, moof_boxes, wrap_moof, step_moof, begin_moof_boxes, begin_leaf, step_leaf_body, leaf_kind, leaf_boxes, wrap_leaf}
+use Rattle.state.specs.Leaf.{skipped, seeing, begin_moof, step_moof_body, moof_kind, moof_next, moof_boxes}
+use Rattle.state.specs.Leaf.{wrap_moof, step_moof, begin_moof_boxes, begin_leaf, step_leaf_body, leaf_kind, leaf_boxes, wrap_leaf}
 use Rattle.state.specs.Leaf.{step_leaf, leaf_so0}
 use Rattle.state.specs.Opening.{passed, indexed, span_of, unlisted, brands_from, styp_ends, begin_opening, step_opening_body, opening_kind, opening, wrap_opening, step_opening}
 use Rattle.state.specs.Levels.{entry_at, entry_place, inmost, depth, took_entry, push, still_open, entry_faults, slot_of}
 use Rattle.state.specs.declared.StoredEntry.{StoredEntry}
-use Rattle.state.specs.Stages.{gap_kind, gap_boxes, wrap_gap, step_gap, onward, follow, top_of, top_level, index_ends, InnerBody, inner_kind, inner_level, step_inner, leaf_record, lift_leaf, step_in_leaf}
+use Rattle.state.specs.Stages.{gap_kind, gap_boxes, wrap_gap, step_gap, onward, follow, top_of, top_level}
+use Rattle.state.specs.Stages.{index_ends, InnerBody, inner_kind, inner_level, step_inner, leaf_record, lift_leaf, step_in_leaf}
 use Rattle.state.specs.Stages.{step_slot, step_entry, step_stage}
 use Rattle.state.specs.Places.{sidx_byte, opening_body_byte, opening_byte, stage_byte, stored_at}
 use Rattle.state.specs.Step.{World, reading, ended, refused, settle, over_limit, left_over, step, step_all}

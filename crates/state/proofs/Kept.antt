@@ -167,7 +167,8 @@ finish_kept_inside : (s : State) (x : Refusal) → in_range s ≡ true → (fini
 unfolding finish_state
 finish_kept_inside (state.Reading n leaves now last s) x t e high =
     let same : refusal 20 n ≡ x = cc in
-    rw (← same) (refused_keeps n leaves (refusal 20 n) ((in_range_lem (state.Refused n leaves (refusal 20 n))).1 (cut_in_range n leaves now last s ((in_range_lem (state.Reading n leaves now last s)).0 t))))
+    rw (← same) (refused_keeps n leaves (refusal 20 n) ((in_range_lem (state.Refused n leaves (refusal 20 n))).1
+    (cut_in_range n leaves now last s ((in_range_lem (state.Reading n leaves now last s)).0 t))))
 finish_kept_inside (state.Ended n leaves top) x t e high = let z : ◌≡◌ {A = ℕ} 0 1 = cc in absurd (omega arith)
 finish_kept_inside (state.Refused n leaves y) x t e high = let same : y ≡ x = cc in rw (← same) (refused_keeps n leaves y t)
 finish_kept_inside (state.Accepted n leaves top) x t e high = let wrong : x.number ≡ 22 = finish_number (refusal 22 0) x e in absurd (omega arith)

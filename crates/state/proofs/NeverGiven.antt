@@ -39,9 +39,11 @@ HandedBack (by_finish given) = (in_range given ≡ false) × ((finish_of given).
 pub returned : {s : State} (r : Returned s) → InRange s ⊎ HandedBack r
 returned (by_start brand) = inl (start_in_range brand)
 returned (by_feed given piece work table bytes) =
-    ⊎_elim (λ inside. inl (feed_in_range given piece work table bytes ((in_range_lem given).0 inside))) (λ outside. inr (outside, feed_outside given piece work table outside)) (tested (in_range given))
+    ⊎_elim (λ inside. inl (feed_in_range given piece work table bytes ((in_range_lem given).0 inside)))
+    (λ outside. inr (outside, feed_outside given piece work table outside)) (tested (in_range given))
 returned (by_finish given) =
-    ⊎_elim (λ inside. inl (finish_in_range given ((in_range_lem given).0 inside))) (λ outside. inr (outside, finish_outside given outside)) (tested (in_range given))
+    ⊎_elim (λ inside. inl (finish_in_range given ((in_range_lem given).0 inside)))
+    (λ outside. inr (outside, finish_outside given outside)) (tested (in_range given))
 
 -- Inside the ranges neither feed nor finish gives 2.
 pub feed_not_two : (s : State) (piece work table : List ℕ) (x : Refusal) → AllBytes piece → InRange s → (feed_of s piece work table).answer ≡ feeds.Refused x → x.number ≢ 2

@@ -180,7 +180,8 @@ number_run (x ∷ xs) bytes n m a s f low going =
     ∙ ap (λ (w : World). step_all w (xs ++ bytes)) (number_step n (m + length xs) a s f x (omega arith) going)
     ∙ number_run xs bytes (suc n) m (a * 256 + x) s (keep_in (stage_number s).place (suc (m + length xs)) f x) (omega arith) going
     ∙ ap (λ (k : ℕ).
-    step_all (reading k ((stage_number s).again m (number_from (a * 256 + x) xs)) (keep_all (stage_number s).place (m + length xs) (keep_in (stage_number s).place (suc (m + length xs)) f x) xs)) bytes) e
+    step_all (reading k ((stage_number s).again m (number_from (a * 256 + x) xs))
+    (keep_all (stage_number s).place (m + length xs) (keep_in (stage_number s).place (suc (m + length xs)) f x) xs)) bytes) e
     ∙ ap (λ (g : Flow). step_all (reading (n + length (x ∷ xs)) ((stage_number s).again m (number_from (a * 256 + x) xs)) g) bytes)
     (ap (λ (k : ℕ). keep_all (stage_number s).place k (keep_in (stage_number s).place (suc (m + length xs)) f x) xs) p
     ∙ ap (λ (k : ℕ). keep_all (stage_number s).place (m + length (x ∷ xs) - 1) (keep_in (stage_number s).place k f x) xs) (sym d))

@@ -43,7 +43,8 @@ use Rattle.state.specs.Rows.{is, top_lengths, traf_faults, leaf_faults, no_room}
 use Rattle.state.specs.Opening.{span_of}
 use Rattle.state.specs.Traf.{Gave, nothing, headed, timed, tfdt_version_faults, fall_faults, skip_traf, rest_from, traf_ends, begin_traf, step_traf_body, traf_now, lacking, traf_next, traf_boxes}
 use Rattle.state.specs.Traf.{traf_kind as traf_kind, wrap_traf, step_traf, traf_so0, begin_traf_boxes}
-use Rattle.state.specs.Leaf.{seeing, seen_now, skip_moof, lift_traf, begin_moof, step_moof_body, moof_kind, moof_next, moof_boxes, wrap_moof, step_moof, begin_moof_boxes, skip_leaf, lift_moof, begin_leaf}
+use Rattle.state.specs.Leaf.{seeing, seen_now, skip_moof, lift_traf, begin_moof, step_moof_body, moof_kind}
+use Rattle.state.specs.Leaf.{moof_next, moof_boxes, wrap_moof, step_moof, begin_moof_boxes, skip_leaf, lift_moof, begin_leaf}
 use Rattle.state.specs.Leaf.{step_leaf_body, leaf_kind, leaf_now, leaf_lacks, leaf_next, leaf_boxes, wrap_leaf, step_leaf}
 use Rattle.state.specs.Ranges.{Within, traf_most, traf_body_bounds, traf_bounds, moof_body_bounds, moof_bounds, leaf_body_bounds, leaf_bounds}
 use Rattle.state.proofs.RangeTests.{spelled_first, spelled_next}
@@ -139,7 +140,8 @@ module _ (t : ℕ) where
       (λ a r g m h. traf_next_lem span (traf_now a r) (fall_faults a.seen.last r) g m (falls a.seen.last r) h)
       (λ a kept m. pick_holds (Each Numbered) (eqb m span.end) _ _ (λ e. lackings span.pos a.track) (λ e. each_none Numbered))
       so s f n b
-      (box_kept t (traf_kind id span.end so) traf_body_bounds Fine (λ g h. h) (λ h g. traf_faults_lem so.track h) (λ h g m e z. begin_traf_lem h g m z) (step_traf_body_lem id so.track) s f n b hn hb w k)
+      (box_kept t (traf_kind id span.end so) traf_body_bounds Fine (λ g h. h) (λ h g. traf_faults_lem so.track h) (λ h g m e z. begin_traf_lem h g m z)
+      (step_traf_body_lem id so.track) s f n b hn hb w k)
 
   step_traf_lem : (id : ℕ) (span : Span) (s : TrafBoxes) (f : Flow) (n b : ℕ) → n ≤ limit → b < 256 → Within (traf_bounds s) → Flows t f → KeptIn t traf_bounds Fine (step_traf id span s f n b)
   unfolding step_traf traf_bounds

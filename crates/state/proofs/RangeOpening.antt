@@ -90,7 +90,8 @@ module _ (t : ℕ) where
   opening_box brand branded s f n b hn hb w k =
       boxes_kept t (opening brand) wrap_opening opening_bounds (Read t topmost) (λ g h. h) (λ a h y. y) opening_body_bounds Opens (λ a x y. y) close_opening_lem
       (λ a kept m. each_none Numbered) branded s f n b
-      (box_kept t (opening_kind brand branded) opening_body_bounds Opens (λ g h. h) (λ h g. opening_faults_lem branded h) (λ h g m e z. begin_opening_lem h g m z) (step_opening_body_lem brand) s f n b hn hb w k)
+      (box_kept t (opening_kind brand branded) opening_body_bounds Opens (λ g h. h) (λ h g. opening_faults_lem branded h) (λ h g m e z. begin_opening_lem h g m z)
+      (step_opening_body_lem brand) s f n b hn hb w k)
 
   pub step_opening_lem : (brand : ℕ) (s : OpeningBoxes) (f : Flow) (n b : ℕ) → n ≤ limit → b < 256 → Within (opening_bounds s) → Flows t f →
       KeptIn t opening_bounds (Read t topmost) (step_opening brand s f n b)
@@ -112,12 +113,14 @@ module _ (t : ℕ) where
   unfolding gap_next
   gap_next_lem end f n k = pick_holds (Closes t Passes f) (eqb n end) _ _ (λ e. (each_none Numbered, k.0, λ e'. k)) (λ e. (each_none Numbered, k))
 
-  gap_box : (end : ℕ) (s : BoxPhase ℕ) (f : Flow) (n b : ℕ) → n ≤ limit → b < 256 → Within (box_bounds no_bounds s) → Flows t f → KeptIn t gap_bounds Passes (step_boxes (gap_boxes end) wrap_gap tt s f n b)
+  gap_box : (end : ℕ) (s : BoxPhase ℕ) (f : Flow) (n b : ℕ) → n ≤ limit → b < 256 → Within (box_bounds no_bounds s) → Flows t f →
+      KeptIn t gap_bounds Passes (step_boxes (gap_boxes end) wrap_gap tt s f n b)
   unfolding gap_bounds
   gap_box end s f n b hn hb w k =
       boxes_kept t (gap_boxes end) wrap_gap gap_bounds Passes (λ g h. h) (λ a h y. y) no_bounds Passes (λ a x y. y) (λ a r g m h. gap_next_lem end g m h)
       (λ a kept m. each_none Numbered) tt s f n b
-      (box_kept t (gap_kind end) no_bounds Passes (λ g h. h) (λ h g. gap_faults_lem h) (λ h g m e z. skip_gap_lem (box_end h) g m z) (λ stop g m c hm hc v z. skip_gap_lem stop g (suc m) z) s f n b hn hb w k)
+      (box_kept t (gap_kind end) no_bounds Passes (λ g h. h) (λ h g. gap_faults_lem h) (λ h g m e z. skip_gap_lem (box_end h) g m z)
+      (λ stop g m c hm hc v z. skip_gap_lem stop g (suc m) z) s f n b hn hb w k)
 
   pub step_gap_lem : (end : ℕ) (s : GapBoxes) (f : Flow) (n b : ℕ) → n ≤ limit → b < 256 → Within (gap_bounds s) → Flows t f → KeptIn t gap_bounds Passes (step_gap end s f n b)
   unfolding step_gap gap_bounds

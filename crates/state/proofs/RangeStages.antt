@@ -37,7 +37,8 @@ use Rattle.state.specs.Sidx.{topmost, under, step_sidx}
 use Rattle.state.specs.Leaf.{leaf_so0, step_leaf}
 use Rattle.state.specs.Levels.{entry_at, entry_place, inmost, depth, took_entry, push, still_open, entry_faults, slot_of}
 use Rattle.state.specs.declared.StoredEntry.{StoredEntry}
-use Rattle.state.specs.Stages.{top_of, top_level, index_ends, InnerBody, lift_sidx, inner_kind, wrap_inner, inner_level, step_inner, onward, follow, leaf_record, step_in_leaf, step_slot, step_entry, step_gap}
+use Rattle.state.specs.Stages.{top_of, top_level, index_ends, InnerBody, lift_sidx, inner_kind, wrap_inner, inner_level}
+use Rattle.state.specs.Stages.{step_inner, onward, follow, leaf_record, step_in_leaf, step_slot, step_entry, step_gap}
 use Rattle.state.specs.Stages.{step_stage}
 use Rattle.state.specs.Ranges.{Bound, at_most, below, Within, head_bounds, sidx_bounds, opening_bounds, gap_bounds, leaf_bounds, top_bounds, level_bounds, levels_bounds, slot_bounds, inner_bounds}
 use Rattle.state.specs.Ranges.{stage_bounds}
@@ -161,7 +162,8 @@ unfolding step_slot leaf_bounds head_bounds
 step_slot_lem top ls true slot f n b hn hb a k = step_inner_lem top ls slot f.now (in_head at.First) f n b hn hb a tt (k, refl)
 step_slot_lem top ls false slot f n b hn hb a k = step_in_leaf_lem top ls slot (leafBox.Head (leaf_so0 f.last) at.First) f n b hn hb a tt k
 
-step_entry_lem : (top : Top) (ls : Levels) (e : StoredEntry) (f : Flow) (n b : ℕ) → n ≤ limit → b < 256 → Within (top_bounds top) → Within (levels_bounds ls) → Comes ls f.now → f.leaves ≤ most_records →
+step_entry_lem : (top : Top) (ls : Levels) (e : StoredEntry) (f : Flow) (n b : ℕ) → n ≤ limit → b < 256 → Within (top_bounds top) →
+    Within (levels_bounds ls) → Comes ls f.now → f.leaves ≤ most_records →
     StageKept (step_entry top ls e f n b)
 unfolding step_entry
 step_entry_lem top ls e f n b hn hb w v c k =

@@ -6,8 +6,10 @@ use Rattle.cases_cuttings.proofs.read_in.Given as goal
 
 abbrev pub invariant-loop : goal.invariant-loop
 invariant-loop l = (length l.work ≡ length l.initial.work) × (length l.table ≡ length l.initial.table) × (l.counter ≤ l.end)
-    × (fed_pieces (l.end - l.counter) l.segment l.cut.other l.from l.to (held l.s l.work l.table) ≡ fed_pieces l.end l.segment l.cut.other l.initial.from l.initial.to (held l.initial.s l.initial.work l.initial.table))
-    × (((l.answered ≡ true) × Answer l.want (l.end - l.counter) l.segment l.cut.other l.from l.to (held l.s l.work l.table)) ↔ Answer l.want l.end l.segment l.cut.other l.initial.from l.initial.to (held l.initial.s l.initial.work l.initial.table))
+    × (fed_pieces (l.end - l.counter) l.segment l.cut.other l.from l.to (held l.s l.work l.table)
+    ≡ fed_pieces l.end l.segment l.cut.other l.initial.from l.initial.to (held l.initial.s l.initial.work l.initial.table))
+    × (((l.answered ≡ true) × Answer l.want (l.end - l.counter) l.segment l.cut.other l.from l.to (held l.s l.work l.table))
+    ↔ Answer l.want l.end l.segment l.cut.other l.initial.from l.initial.to (held l.initial.s l.initial.work l.initial.table))
 
 abbrev pub decreases-loop : goal.decreases-loop
 decreases-loop l = l.end - l.counter

@@ -2,24 +2,11 @@
 use mathlib.Core.Path.{sym, ◌∙◌}
 use Rattle.state.specs.Calls.{finish_of}
 use Rattle.basics.proofs.Picks.{pick_yes, pick_no}
-use borrow.Author.Rules.{rules}
 use Rattle.finish.proofs.finish.Goals as goal
-
-pub in_range-requires : goal.in_range-requires
-unfolding finish_of
-in_range-requires c = search rules
-
-pub finish_state-requires : goal.finish_state-requires
-unfolding finish_of
-finish_state-requires c = search rules
 
 pub returns-then-in_range : goal.returns-then-in_range
 unfolding finish_of
 returns-then-in_range c = c.finish_state.ensures ∙ sym (pick_yes _ _ _ (sym c.in_range.ensures ∙ c.if-in_range.true))
-
-pub declined-requires : goal.declined-requires
-unfolding finish_of
-declined-requires c = search rules
 
 pub returns : goal.returns
 unfolding finish_of

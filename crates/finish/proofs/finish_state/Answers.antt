@@ -1,15 +1,6 @@
 -- `finish::finish_state` meets its contract, by those of `cut_short` and `declined`, and by the definition of `finish_state`.
 use Rattle.state.specs.Calls.{finish_state}
-use borrow.Author.Rules.{rules}
 use Rattle.finish.proofs.finish_state.Goals as goal
-
-pub cut_short-requires : goal.cut_short-requires
-unfolding finish_state
-cut_short-requires c = search rules
-
-pub declined-requires : goal.declined-requires
-unfolding finish_state
-declined-requires c = search rules
 
 pub returns-in-Reading : goal.returns-in-Reading
 unfolding finish_state

@@ -1,19 +1,6 @@
 -- `jump::leaf_skips` meets its contract, by that of `moof_skips`, and by the definitions of `leaf_skips` and `leaf_body_skips`.
 use Rattle.state.specs.Jump.{leaf_skips, leaf_body_skips}
-use borrow.Author.Rules.{rules}
 use Rattle.jump.proofs.leaf_skips.Goals as goal
-
-pub moof_skips-requires : goal.moof_skips-requires
-unfolding leaf_skips leaf_body_skips
-moof_skips-requires c = search rules
-
-pub returns-in-Head : goal.returns-in-Head
-unfolding leaf_skips leaf_body_skips
-returns-in-Head c = search rules
-
-pub returns-in-Skip : goal.returns-in-Skip
-unfolding leaf_skips leaf_body_skips
-returns-in-Skip c = search rules
 
 pub returns-in-Moof : goal.returns-in-Moof
 unfolding leaf_skips leaf_body_skips

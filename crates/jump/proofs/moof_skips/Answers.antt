@@ -1,19 +1,6 @@
 -- `jump::moof_skips` meets its contract, by that of `traf_skips`, and by the definitions of `moof_skips` and `moof_body_skips`.
 use Rattle.state.specs.Jump.{moof_skips, moof_body_skips}
-use borrow.Author.Rules.{rules}
 use Rattle.jump.proofs.moof_skips.Goals as goal
-
-pub traf_skips-requires : goal.traf_skips-requires
-unfolding moof_skips moof_body_skips
-traf_skips-requires c = search rules
-
-pub returns-in-Head : goal.returns-in-Head
-unfolding moof_skips moof_body_skips
-returns-in-Head c = search rules
-
-pub returns-in-Skip : goal.returns-in-Skip
-unfolding moof_skips moof_body_skips
-returns-in-Skip c = search rules
 
 pub returns-in-Traf : goal.returns-in-Traf
 unfolding moof_skips moof_body_skips

@@ -1,7 +1,6 @@
 -- `jump::pass` meets its contract, by the definitions of `passed_on` and `Fitting`.
 use native.Mathlib.Omega.{arith}
 use Rattle.jump.specs.Passes.{passed_on, Fitting}
-use borrow.Author.Rules.{rules}
 use Rattle.jump.proofs.pass.Goals as goal
 
 pub overflow_add-result : goal.overflow_add-result
@@ -11,15 +10,3 @@ overflow_add-result c = let h = rw c.in-Reading.is at c.requires in omega (arith
 pub returns-in-Reading : goal.returns-in-Reading
 unfolding passed_on Fitting
 returns-in-Reading c = rw c.in-Reading.is
-
-pub returns-in-Ended : goal.returns-in-Ended
-unfolding passed_on Fitting
-returns-in-Ended c = search rules
-
-pub returns-in-Refused : goal.returns-in-Refused
-unfolding passed_on Fitting
-returns-in-Refused c = search rules
-
-pub returns-in-Accepted : goal.returns-in-Accepted
-unfolding passed_on Fitting
-returns-in-Accepted c = search rules

@@ -1,15 +1,6 @@
 -- `leap_leaf::leaf_end` meets its contract, by those of `head_end` and `moof_end`, and by the definition of `leaf_end`.
-use borrow.Author.Rules.{rules}
 use Rattle.leap_leaf.specs.Begun.{leaf_end}
 use Rattle.leap_leaf.proofs.leaf_end.Goals as goal
-
-pub head_end-requires : goal.head_end-requires
-unfolding leaf_end
-head_end-requires c = search rules
-
-pub moof_end-requires : goal.moof_end-requires
-unfolding leaf_end
-moof_end-requires c = search rules
 
 pub returns-in-Head : goal.returns-in-Head
 unfolding leaf_end

@@ -1,11 +1,6 @@
 -- `leap_leaf::leaf_with` meets its contract, by that of `moof_with`, and by the definition of `leaf_with`.
-use borrow.Author.Rules.{rules}
 use Rattle.leap_leaf.specs.Begun.{leaf_with}
 use Rattle.leap_leaf.proofs.leaf_with.Goals as goal
-
-pub moof_with-requires : goal.moof_with-requires
-unfolding leaf_with
-moof_with-requires c = search rules
 
 pub returns-in-Head : goal.returns-in-Head
 unfolding leaf_with

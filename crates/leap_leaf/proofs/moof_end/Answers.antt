@@ -1,15 +1,6 @@
 -- `leap_leaf::moof_end` meets its contract, by those of `head_end` and `traf_end`, and by the definition of `moof_end`.
-use borrow.Author.Rules.{rules}
 use Rattle.leap_leaf.specs.Begun.{moof_end}
 use Rattle.leap_leaf.proofs.moof_end.Goals as goal
-
-pub head_end-requires : goal.head_end-requires
-unfolding moof_end
-head_end-requires c = search rules
-
-pub traf_end-requires : goal.traf_end-requires
-unfolding moof_end
-traf_end-requires c = search rules
 
 pub returns-in-Head : goal.returns-in-Head
 unfolding moof_end

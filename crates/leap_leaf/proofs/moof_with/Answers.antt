@@ -1,11 +1,6 @@
 -- `leap_leaf::moof_with` meets its contract, by that of `traf_with`, and by the definition of `moof_with`.
-use borrow.Author.Rules.{rules}
 use Rattle.leap_leaf.specs.Begun.{moof_with}
 use Rattle.leap_leaf.proofs.moof_with.Goals as goal
-
-pub traf_with-requires : goal.traf_with-requires
-unfolding moof_with
-traf_with-requires c = search rules
 
 pub returns-in-Head : goal.returns-in-Head
 unfolding moof_with

@@ -1,11 +1,6 @@
 -- `leap_leaf::traf_end` meets its contract, by that of `head_end`, and by the definition of `traf_end`.
-use borrow.Author.Rules.{rules}
 use Rattle.leap_leaf.specs.Begun.{traf_end}
 use Rattle.leap_leaf.proofs.traf_end.Goals as goal
-
-pub head_end-requires : goal.head_end-requires
-unfolding traf_end
-head_end-requires c = search rules
 
 pub returns-in-Head : goal.returns-in-Head
 unfolding traf_end

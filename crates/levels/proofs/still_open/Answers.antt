@@ -2,24 +2,7 @@
 -- and `still_four`.
 use Rattle.state.specs.Levels.{still_open}
 use Rattle.levels.specs.Views.{still_four}
-use borrow.Author.Rules.{rules}
 use Rattle.levels.proofs.still_open.Goals as goal
-
-pub still_one-requires : goal.still_one-requires
-unfolding still_open still_four
-still_one-requires c = search rules
-
-pub still_two-requires : goal.still_two-requires
-unfolding still_open still_four
-still_two-requires c = search rules
-
-pub still_three-requires : goal.still_three-requires
-unfolding still_open still_four
-still_three-requires c = search rules
-
-pub still_four-requires : goal.still_four-requires
-unfolding still_open still_four
-still_four-requires c = search rules
 
 pub returns-in-One : goal.returns-in-One
 unfolding still_open still_four

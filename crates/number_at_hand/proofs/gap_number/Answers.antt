@@ -1,16 +1,7 @@
 -- `number_at_hand::gap_number` meets its contract, by those of `head_number` and `unstored`, and by the definitions of `gap_number`, `is_stored` and `next_place`.
-use borrow.Author.Rules.{rules}
 use Rattle.state.specs.Numbers.{gap_number}
 use Rattle.number_at_hand.specs.Views.{is_stored, next_place}
 use Rattle.number_at_hand.proofs.gap_number.Goals as goal
-
-pub head_number-requires : goal.head_number-requires
-unfolding gap_number is_stored next_place
-head_number-requires c = search rules
-
-pub unstored-requires : goal.unstored-requires
-unfolding gap_number is_stored next_place
-unstored-requires c = search rules
 
 pub returns-in-Head : goal.returns-in-Head
 unfolding gap_number is_stored next_place

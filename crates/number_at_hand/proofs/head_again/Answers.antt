@@ -1,11 +1,6 @@
 -- `number_at_hand::head_again` meets its contract, by the definition of `head_number`.
-use borrow.Author.Rules.{rules}
 use Rattle.state.specs.Numbers.{head_number}
 use Rattle.number_at_hand.proofs.head_again.Goals as goal
-
-pub returns-in-First : goal.returns-in-First
-unfolding head_number
-returns-in-First c = search rules
 
 pub returns-in-Size : goal.returns-in-Size
 unfolding head_number

@@ -1,24 +1,7 @@
 -- `number_at_hand::head_number` meets its contract, by that of `unstored`, and by the definitions of `head_number`, `is_stored` and `next_place`.
-use borrow.Author.Rules.{rules}
 use Rattle.state.specs.Numbers.{head_number}
 use Rattle.number_at_hand.specs.Views.{is_stored, next_place}
 use Rattle.number_at_hand.proofs.head_number.Goals as goal
-
-pub unstored-requires : goal.unstored-requires
-unfolding head_number is_stored next_place
-unstored-requires c = search rules
-
-pub unstored-requires-in-Size : goal.unstored-requires-in-Size
-unfolding head_number is_stored next_place
-unstored-requires-in-Size c = search rules
-
-pub unstored-requires-in-Kind : goal.unstored-requires-in-Kind
-unfolding head_number is_stored next_place
-unstored-requires-in-Kind c = search rules
-
-pub unstored-requires-in-Large : goal.unstored-requires-in-Large
-unfolding head_number is_stored next_place
-unstored-requires-in-Large c = search rules
 
 pub returns-in-First : goal.returns-in-First
 unfolding head_number is_stored next_place

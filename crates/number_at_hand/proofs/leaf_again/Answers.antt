@@ -1,15 +1,6 @@
 -- `number_at_hand::leaf_again` meets its contract, by those of `head_again` and `moof_again`, and by the definitions of `leaf_number` and `leaf_body_number`.
-use borrow.Author.Rules.{rules}
 use Rattle.state.specs.Numbers.{leaf_body_number, leaf_number}
 use Rattle.number_at_hand.proofs.leaf_again.Goals as goal
-
-pub head_again-requires : goal.head_again-requires
-unfolding leaf_number leaf_body_number
-head_again-requires c = search rules
-
-pub moof_again-requires : goal.moof_again-requires
-unfolding leaf_number leaf_body_number
-moof_again-requires c = search rules
 
 pub returns-in-Head : goal.returns-in-Head
 unfolding leaf_number leaf_body_number

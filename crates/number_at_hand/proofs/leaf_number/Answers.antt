@@ -1,21 +1,8 @@
 -- `number_at_hand::leaf_number` meets its contract, by those of `head_number`, `unstored` and `moof_number`, and by the definitions of `leaf_number`, `is_stored`, `next_place` and
 -- `leaf_body_number`.
-use borrow.Author.Rules.{rules}
 use Rattle.state.specs.Numbers.{leaf_body_number, leaf_number}
 use Rattle.number_at_hand.specs.Views.{is_stored, next_place}
 use Rattle.number_at_hand.proofs.leaf_number.Goals as goal
-
-pub head_number-requires : goal.head_number-requires
-unfolding leaf_number is_stored next_place leaf_body_number
-head_number-requires c = search rules
-
-pub unstored-requires : goal.unstored-requires
-unfolding leaf_number is_stored next_place leaf_body_number
-unstored-requires c = search rules
-
-pub moof_number-requires : goal.moof_number-requires
-unfolding leaf_number is_stored next_place leaf_body_number
-moof_number-requires c = search rules
 
 pub returns-in-Head : goal.returns-in-Head
 unfolding leaf_number is_stored next_place leaf_body_number

@@ -1,15 +1,6 @@
 -- `number_at_hand::moof_again` meets its contract, by those of `head_again` and `traf_again`, and by the definitions of `moof_number` and `moof_body_number`.
-use borrow.Author.Rules.{rules}
 use Rattle.state.specs.Numbers.{moof_body_number, moof_number}
 use Rattle.number_at_hand.proofs.moof_again.Goals as goal
-
-pub head_again-requires : goal.head_again-requires
-unfolding moof_number moof_body_number
-head_again-requires c = search rules
-
-pub traf_again-requires : goal.traf_again-requires
-unfolding moof_number moof_body_number
-traf_again-requires c = search rules
 
 pub returns-in-Head : goal.returns-in-Head
 unfolding moof_number moof_body_number

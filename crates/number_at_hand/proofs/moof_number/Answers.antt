@@ -1,21 +1,8 @@
 -- `number_at_hand::moof_number` meets its contract, by those of `head_number`, `unstored` and `traf_number`, and by the definitions of `moof_number`, `is_stored`, `next_place` and
 -- `moof_body_number`.
-use borrow.Author.Rules.{rules}
 use Rattle.state.specs.Numbers.{moof_body_number, moof_number}
 use Rattle.number_at_hand.specs.Views.{is_stored, next_place}
 use Rattle.number_at_hand.proofs.moof_number.Goals as goal
-
-pub head_number-requires : goal.head_number-requires
-unfolding moof_number is_stored next_place moof_body_number
-head_number-requires c = search rules
-
-pub unstored-requires : goal.unstored-requires
-unfolding moof_number is_stored next_place moof_body_number
-unstored-requires c = search rules
-
-pub traf_number-requires : goal.traf_number-requires
-unfolding moof_number is_stored next_place moof_body_number
-traf_number-requires c = search rules
 
 pub returns-in-Head : goal.returns-in-Head
 unfolding moof_number is_stored next_place moof_body_number

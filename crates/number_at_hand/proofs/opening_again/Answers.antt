@@ -1,16 +1,7 @@
 -- `number_at_hand::opening_again` meets its contract, by those of `head_again` and `sidx_again`, and by the definitions of `opening_number` and `opening_body_number`.
-use borrow.Author.Rules.{rules}
 use Rattle.state.specs.Numbers.{opening_body_number, opening_number}
 use Rattle.state.specs.Sidx.{topmost}
 use Rattle.number_at_hand.proofs.opening_again.Goals as goal
-
-pub head_again-requires : goal.head_again-requires
-unfolding opening_number opening_body_number
-head_again-requires c = search rules
-
-pub sidx_again-requires : goal.sidx_again-requires
-unfolding opening_number opening_body_number
-sidx_again-requires c = search rules
 
 pub returns-in-Head : goal.returns-in-Head
 unfolding opening_number opening_body_number

@@ -1,22 +1,9 @@
 -- `number_at_hand::opening_number` meets its contract, by those of `head_number`, `unstored` and `sidx_number`, and by the definitions of `opening_bounds`, `opening_body_bounds`, `opening_number`,
 -- `is_stored`, `next_place` and `opening_body_number`.
-use borrow.Author.Rules.{rules}
 use Rattle.state.specs.Numbers.{opening_body_number, opening_number}
 use Rattle.number_at_hand.specs.Views.{is_stored, next_place}
 use Rattle.state.specs.Ranges.{opening_body_bounds, opening_bounds}
 use Rattle.number_at_hand.proofs.opening_number.Goals as goal
-
-pub head_number-requires : goal.head_number-requires
-unfolding opening_bounds opening_body_bounds opening_number is_stored next_place opening_body_number
-head_number-requires c = search rules
-
-pub unstored-requires : goal.unstored-requires
-unfolding opening_bounds opening_body_bounds opening_number is_stored next_place opening_body_number
-unstored-requires c = search rules
-
-pub unstored-requires-in-Styp : goal.unstored-requires-in-Styp
-unfolding opening_bounds opening_body_bounds opening_number is_stored next_place opening_body_number
-unstored-requires-in-Styp c = search rules
 
 pub sidx_number-requires : goal.sidx_number-requires
 unfolding opening_bounds opening_body_bounds opening_number is_stored next_place opening_body_number

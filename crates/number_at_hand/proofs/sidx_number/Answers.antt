@@ -1,14 +1,9 @@
 -- `number_at_hand::sidx_number` meets its contract, by those of `unstored` and `byte_place`, by the laws `entry_summed` and `entry_more`, and by the definitions of `sidx_number`, `is_stored` and
 -- `next_place`.
-use borrow.Author.Rules.{rules}
 use Rattle.state.specs.Numbers.{sidx_number}
 use Rattle.number_at_hand.specs.Views.{is_stored, next_place}
 use Rattle.index.proofs.Numbers.{entry_summed, entry_more}
 use Rattle.number_at_hand.proofs.sidx_number.Goals as goal
-
-pub unstored-requires : goal.unstored-requires
-unfolding sidx_number is_stored next_place
-unstored-requires c = search rules
 
 pub byte_place-requires : goal.byte_place-requires
 unfolding sidx_number is_stored next_place

@@ -1,27 +1,6 @@
 -- `number_at_hand::stage_again` meets its contract, by those of `opening_again`, `gap_again`, `leaf_again`, `in_leaf` and `inner_again`, and by the definition of `stage_number`.
-use borrow.Author.Rules.{rules}
 use Rattle.state.specs.Numbers.{stage_number}
 use Rattle.number_at_hand.proofs.stage_again.Goals as goal
-
-pub opening_again-requires : goal.opening_again-requires
-unfolding stage_number
-opening_again-requires c = search rules
-
-pub gap_again-requires : goal.gap_again-requires
-unfolding stage_number
-gap_again-requires c = search rules
-
-pub leaf_again-requires : goal.leaf_again-requires
-unfolding stage_number
-leaf_again-requires c = search rules
-
-pub in_leaf-requires : goal.in_leaf-requires
-unfolding stage_number
-in_leaf-requires c = search rules
-
-pub inner_again-requires : goal.inner_again-requires
-unfolding stage_number
-inner_again-requires c = search rules
 
 pub returns-in-Opening : goal.returns-in-Opening
 unfolding stage_number
@@ -30,10 +9,6 @@ returns-in-Opening c = rw (c.in-Opening.is, c.opening_again.ensures)
 pub returns-in-Gap : goal.returns-in-Gap
 unfolding stage_number
 returns-in-Gap c = rw (c.in-Gap.is, c.gap_again.ensures)
-
-pub returns-in-Entry : goal.returns-in-Entry
-unfolding stage_number
-returns-in-Entry c = search rules
 
 pub returns-in-Leaf : goal.returns-in-Leaf
 unfolding stage_number

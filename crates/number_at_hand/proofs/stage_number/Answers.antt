@@ -1,6 +1,5 @@
 -- `number_at_hand::stage_number` meets its contract, by those of `opening_number`, `gap_number`, `unstored`, `leaf_number` and `inner_number`, by the law `four_within`, and by the definitions
 -- of `stage_bounds`, `stage_number`, `is_stored` and `next_place`.
-use borrow.Author.Rules.{rules}
 use Rattle.state.specs.Numbers.{stage_number}
 use Rattle.state.specs.Ranges.{stage_bounds, top_bounds, levels_bounds, slot_bounds, inner_bounds}
 use Rattle.state.proofs.RangeTests.{four_within}
@@ -10,18 +9,6 @@ use Rattle.number_at_hand.proofs.stage_number.Goals as goal
 pub opening_number-requires : goal.opening_number-requires
 unfolding stage_bounds stage_number is_stored next_place
 opening_number-requires c = rw c.in-Opening.is at c.requires
-
-pub gap_number-requires : goal.gap_number-requires
-unfolding stage_bounds stage_number is_stored next_place
-gap_number-requires c = search rules
-
-pub unstored-requires : goal.unstored-requires
-unfolding stage_bounds stage_number is_stored next_place
-unstored-requires c = search rules
-
-pub leaf_number-requires : goal.leaf_number-requires
-unfolding stage_bounds stage_number is_stored next_place
-leaf_number-requires c = search rules
 
 pub inner_number-requires : goal.inner_number-requires
 unfolding stage_bounds

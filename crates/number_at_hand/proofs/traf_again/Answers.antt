@@ -1,11 +1,6 @@
 -- `number_at_hand::traf_again` meets its contract, by that of `head_again`, and by the definitions of `traf_number` and `traf_body_number`.
-use borrow.Author.Rules.{rules}
 use Rattle.state.specs.Numbers.{traf_body_number, traf_number}
 use Rattle.number_at_hand.proofs.traf_again.Goals as goal
-
-pub head_again-requires : goal.head_again-requires
-unfolding traf_number traf_body_number
-head_again-requires c = search rules
 
 pub returns-in-Head : goal.returns-in-Head
 unfolding traf_number traf_body_number

@@ -1,24 +1,7 @@
 -- `number_at_hand::traf_number` meets its contract, by those of `head_number` and `unstored`, and by the definitions of `traf_number`, `is_stored`, `next_place` and `traf_body_number`.
-use borrow.Author.Rules.{rules}
 use Rattle.state.specs.Numbers.{traf_body_number, traf_number}
 use Rattle.number_at_hand.specs.Views.{is_stored, next_place}
 use Rattle.number_at_hand.proofs.traf_number.Goals as goal
-
-pub head_number-requires : goal.head_number-requires
-unfolding traf_number is_stored next_place traf_body_number
-head_number-requires c = search rules
-
-pub unstored-requires : goal.unstored-requires
-unfolding traf_number is_stored next_place traf_body_number
-unstored-requires c = search rules
-
-pub unstored-requires-in-Rest : goal.unstored-requires-in-Rest
-unfolding traf_number is_stored next_place traf_body_number
-unstored-requires-in-Rest c = search rules
-
-pub unstored-requires-in-Field : goal.unstored-requires-in-Field
-unfolding traf_number is_stored next_place traf_body_number
-unstored-requires-in-Field c = search rules
 
 pub returns-in-Head : goal.returns-in-Head
 unfolding traf_number is_stored next_place traf_body_number

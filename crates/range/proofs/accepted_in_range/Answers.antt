@@ -2,20 +2,7 @@
 -- `bounds`.
 use Rattle.state.specs.Ranges.{bounds}
 use Rattle.range.proofs.Joined.{joined}
-use borrow.Author.Rules.{rules}
 use Rattle.range.proofs.accepted_in_range.Goals as goal
-
-pub counts_fit-requires : goal.counts_fit-requires
-unfolding bounds
-counts_fit-requires c = search rules
-
-pub top_fits-requires : goal.top_fits-requires
-unfolding bounds
-top_fits-requires c = search rules
-
-pub both-requires : goal.both-requires
-unfolding bounds
-both-requires c = search rules
 
 pub returns : goal.returns
 unfolding bounds

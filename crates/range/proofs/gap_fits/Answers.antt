@@ -1,12 +1,7 @@
 -- `range::gap_fits` meets its contract, by that of `head_fits`, by the law `all_of_none`, and by the definition of `gap_bounds`.
 use Rattle.state.specs.Ranges.{gap_bounds}
 use Rattle.range.proofs.Joined.{all_of_none}
-use borrow.Author.Rules.{rules}
 use Rattle.range.proofs.gap_fits.Goals as goal
-
-pub head_fits-requires : goal.head_fits-requires
-unfolding gap_bounds
-head_fits-requires c = search rules
 
 pub returns-in-Head : goal.returns-in-Head
 unfolding gap_bounds

@@ -1,20 +1,7 @@
 -- `range::head_fits` meets its contract, by that of `head_number_fits`, by the law `all_of_none`, and by the definition of `head_bounds`.
 use Rattle.state.specs.Ranges.{head_bounds}
 use Rattle.range.proofs.Joined.{all_of_none}
-use borrow.Author.Rules.{rules}
 use Rattle.range.proofs.head_fits.Goals as goal
-
-pub head_number_fits-requires : goal.head_number_fits-requires
-unfolding head_bounds
-head_number_fits-requires c = search rules
-
-pub head_number_fits-requires-in-Kind : goal.head_number_fits-requires-in-Kind
-unfolding head_bounds
-head_number_fits-requires-in-Kind c = search rules
-
-pub head_number_fits-requires-in-Large : goal.head_number_fits-requires-in-Large
-unfolding head_bounds
-head_number_fits-requires-in-Large c = search rules
 
 pub returns-in-First : goal.returns-in-First
 unfolding head_bounds

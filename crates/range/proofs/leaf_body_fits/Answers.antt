@@ -1,12 +1,7 @@
 -- `range::leaf_body_fits` meets its contract, by that of `moof_fits`, by the law `all_of_none`, and by the definition of `leaf_body_bounds`.
 use Rattle.state.specs.Ranges.{leaf_body_bounds}
 use Rattle.range.proofs.Joined.{all_of_none}
-use borrow.Author.Rules.{rules}
 use Rattle.range.proofs.leaf_body_fits.Goals as goal
-
-pub moof_fits-requires : goal.moof_fits-requires
-unfolding leaf_body_bounds
-moof_fits-requires c = search rules
 
 pub returns-in-Skip : goal.returns-in-Skip
 unfolding leaf_body_bounds

@@ -1,15 +1,6 @@
 -- `range::leaf_fits` meets its contract, by those of `head_fits` and `leaf_body_fits`, and by the definition of `leaf_bounds`.
 use Rattle.state.specs.Ranges.{leaf_bounds}
-use borrow.Author.Rules.{rules}
 use Rattle.range.proofs.leaf_fits.Goals as goal
-
-pub head_fits-requires : goal.head_fits-requires
-unfolding leaf_bounds
-head_fits-requires c = search rules
-
-pub leaf_body_fits-requires : goal.leaf_body_fits-requires
-unfolding leaf_bounds
-leaf_body_fits-requires c = search rules
 
 pub returns-in-Head : goal.returns-in-Head
 unfolding leaf_bounds

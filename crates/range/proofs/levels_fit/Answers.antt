@@ -1,23 +1,6 @@
 -- `range::levels_fit` meets its contract, by those of `level_fits`, `two_fit`, `three_fit` and `four_fit`, and by the definition of `levels_bounds`.
 use Rattle.state.specs.Ranges.{levels_bounds}
-use borrow.Author.Rules.{rules}
 use Rattle.range.proofs.levels_fit.Goals as goal
-
-pub level_fits-requires : goal.level_fits-requires
-unfolding levels_bounds
-level_fits-requires c = search rules
-
-pub two_fit-requires : goal.two_fit-requires
-unfolding levels_bounds
-two_fit-requires c = search rules
-
-pub three_fit-requires : goal.three_fit-requires
-unfolding levels_bounds
-three_fit-requires c = search rules
-
-pub four_fit-requires : goal.four_fit-requires
-unfolding levels_bounds
-four_fit-requires c = search rules
 
 pub returns-in-One : goal.returns-in-One
 unfolding levels_bounds

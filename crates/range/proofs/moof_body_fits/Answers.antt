@@ -1,12 +1,7 @@
 -- `range::moof_body_fits` meets its contract, by that of `traf_fits`, by the law `all_of_none`, and by the definition of `moof_body_bounds`.
 use Rattle.state.specs.Ranges.{moof_body_bounds}
 use Rattle.range.proofs.Joined.{all_of_none}
-use borrow.Author.Rules.{rules}
 use Rattle.range.proofs.moof_body_fits.Goals as goal
-
-pub traf_fits-requires : goal.traf_fits-requires
-unfolding moof_body_bounds
-traf_fits-requires c = search rules
 
 pub returns-in-Skip : goal.returns-in-Skip
 unfolding moof_body_bounds

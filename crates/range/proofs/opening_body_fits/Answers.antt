@@ -1,16 +1,7 @@
 -- `range::opening_body_fits` meets its contract, by those of `spelling_fits` and `sidx_fits`, by the law `all_of_none`, and by the definition of `opening_body_bounds`.
 use Rattle.state.specs.Ranges.{opening_body_bounds}
 use Rattle.range.proofs.Joined.{all_of_none}
-use borrow.Author.Rules.{rules}
 use Rattle.range.proofs.opening_body_fits.Goals as goal
-
-pub spelling_fits-requires : goal.spelling_fits-requires
-unfolding opening_body_bounds
-spelling_fits-requires c = search rules
-
-pub sidx_fits-requires : goal.sidx_fits-requires
-unfolding opening_body_bounds
-sidx_fits-requires c = search rules
 
 pub returns-in-Skip : goal.returns-in-Skip
 unfolding opening_body_bounds

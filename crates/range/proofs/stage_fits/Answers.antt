@@ -2,68 +2,7 @@
 -- `joined`, and by the definition of `stage_bounds`.
 use Rattle.state.specs.Ranges.{stage_bounds}
 use Rattle.range.proofs.Joined.{joined}
-use borrow.Author.Rules.{rules}
 use Rattle.range.proofs.stage_fits.Goals as goal
-
-pub opening_fits-requires : goal.opening_fits-requires
-unfolding stage_bounds
-opening_fits-requires c = search rules
-
-pub gap_stage_fits-requires : goal.gap_stage_fits-requires
-unfolding stage_bounds
-gap_stage_fits-requires c = search rules
-
-pub nested_fits-requires : goal.nested_fits-requires
-unfolding stage_bounds
-nested_fits-requires c = search rules
-
-pub next_entry_fits-requires : goal.next_entry_fits-requires
-unfolding stage_bounds
-next_entry_fits-requires c = search rules
-
-pub both-requires : goal.both-requires
-unfolding stage_bounds
-both-requires c = search rules
-
-pub slot_fits-requires : goal.slot_fits-requires
-unfolding stage_bounds
-slot_fits-requires c = search rules
-
-pub leaf_fits-requires : goal.leaf_fits-requires
-unfolding stage_bounds
-leaf_fits-requires c = search rules
-
-pub both-rest-requires : goal.both-rest-requires
-unfolding stage_bounds
-both-rest-requires c = search rules
-
-pub nested_fits-requires-in-Leaf : goal.nested_fits-requires-in-Leaf
-unfolding stage_bounds
-nested_fits-requires-in-Leaf c = search rules
-
-pub both-requires-in-Leaf : goal.both-requires-in-Leaf
-unfolding stage_bounds
-both-requires-in-Leaf c = search rules
-
-pub slot_fits-requires-in-Inner : goal.slot_fits-requires-in-Inner
-unfolding stage_bounds
-slot_fits-requires-in-Inner c = search rules
-
-pub inner_fits-requires : goal.inner_fits-requires
-unfolding stage_bounds
-inner_fits-requires c = search rules
-
-pub both-rest-requires-in-Inner : goal.both-rest-requires-in-Inner
-unfolding stage_bounds
-both-rest-requires-in-Inner c = search rules
-
-pub nested_fits-requires-in-Inner : goal.nested_fits-requires-in-Inner
-unfolding stage_bounds
-nested_fits-requires-in-Inner c = search rules
-
-pub both-requires-in-Inner : goal.both-requires-in-Inner
-unfolding stage_bounds
-both-requires-in-Inner c = search rules
 
 pub returns-in-Opening : goal.returns-in-Opening
 unfolding stage_bounds

@@ -1,12 +1,7 @@
 -- `range::traf_body_fits` meets its contract, by those of `traf_most` and `spelling_fits`, by the laws `all_of_none` and `traf_low`, and by the definition of `traf_body_bounds`.
 use Rattle.state.specs.Ranges.{traf_body_bounds}
 use Rattle.range.proofs.Joined.{all_of_none, traf_low}
-use borrow.Author.Rules.{rules}
 use Rattle.range.proofs.traf_body_fits.Goals as goal
-
-pub traf_most-requires : goal.traf_most-requires
-unfolding traf_body_bounds
-traf_most-requires c = search rules
 
 pub spelling_fits-requires : goal.spelling_fits-requires
 unfolding traf_body_bounds

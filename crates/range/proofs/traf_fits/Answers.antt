@@ -1,15 +1,6 @@
 -- `range::traf_fits` meets its contract, by those of `head_fits` and `traf_body_fits`, and by the definition of `traf_bounds`.
 use Rattle.state.specs.Ranges.{traf_bounds}
-use borrow.Author.Rules.{rules}
 use Rattle.range.proofs.traf_fits.Goals as goal
-
-pub head_fits-requires : goal.head_fits-requires
-unfolding traf_bounds
-head_fits-requires c = search rules
-
-pub traf_body_fits-requires : goal.traf_body_fits-requires
-unfolding traf_bounds
-traf_body_fits-requires c = search rules
 
 pub returns-in-Head : goal.returns-in-Head
 unfolding traf_bounds

@@ -1,43 +1,6 @@
 -- `cases_trial::alike::left_by` meets its contract: a case of the definition for each arm.
 use Rattle.cases_trial.specs.Ends.{left_by}
-use borrow.Author.Rules.{rules}
 use Rattle.cases_trial.proofs.alike.left_by.Goals as goal
-
-pub no_refusal-requires : goal.no_refusal-requires
-unfolding left_by
-no_refusal-requires c = search rules
-
-pub no_top-requires : goal.no_top-requires
-unfolding left_by
-no_top-requires c = search rules
-
-pub left_as-requires : goal.left_as-requires
-unfolding left_by
-left_as-requires c = search rules
-
-pub no_refusal-requires-in-Ended : goal.no_refusal-requires-in-Ended
-unfolding left_by
-no_refusal-requires-in-Ended c = search rules
-
-pub left_as-requires-in-Ended : goal.left_as-requires-in-Ended
-unfolding left_by
-left_as-requires-in-Ended c = search rules
-
-pub no_top-requires-in-Refused : goal.no_top-requires-in-Refused
-unfolding left_by
-no_top-requires-in-Refused c = search rules
-
-pub left_as-requires-in-Refused : goal.left_as-requires-in-Refused
-unfolding left_by
-left_as-requires-in-Refused c = search rules
-
-pub no_refusal-requires-in-Accepted : goal.no_refusal-requires-in-Accepted
-unfolding left_by
-no_refusal-requires-in-Accepted c = search rules
-
-pub left_as-requires-in-Accepted : goal.left_as-requires-in-Accepted
-unfolding left_by
-left_as-requires-in-Accepted c = search rules
 
 pub returns-in-Reading : goal.returns-in-Reading
 unfolding left_by

@@ -2,28 +2,11 @@
 use Rattle.basics.specs.Choose.{pick}
 use Rattle.numbered.specs.Blocks.{of_two}
 use borrow.Author.Tests.{ne_eqb}
-use borrow.Author.Rules.{rules}
 use Rattle.pack.proofs.take.gap_of.Goals as goal
-
-pub bounds-numbers-0 : goal.bounds-numbers-0
-unfolding of_two pick
-bounds-numbers-0 c = search rules
-
-pub from-requires : goal.from-requires
-unfolding of_two pick
-from-requires c = search rules
-
-pub head_of-requires : goal.head_of-requires
-unfolding of_two pick
-head_of-requires c = search rules
 
 pub returns-then-tag-eq1 : goal.returns-then-tag-eq1
 unfolding of_two pick
 returns-then-tag-eq1 c = rw (c.if-tag-eq1.true, c.head_of.ensures, c.from.ensures.0)
-
-pub bounds-numbers-1 : goal.bounds-numbers-1
-unfolding of_two pick
-bounds-numbers-1 c = search rules
 
 pub returns : goal.returns
 unfolding of_two pick

@@ -2,40 +2,11 @@
 use Rattle.basics.specs.Choose.{pick}
 use Rattle.numbered.specs.Blocks.{of_two}
 use borrow.Author.Tests.{ne_eqb}
-use borrow.Author.Rules.{rules}
 use Rattle.pack.proofs.take.inner_of.Goals as goal
-
-pub bounds-numbers-0 : goal.bounds-numbers-0
-unfolding of_two pick
-bounds-numbers-0 c = search rules
-
-pub from-requires : goal.from-requires
-unfolding of_two pick
-from-requires c = search rules
-
-pub head_of-requires : goal.head_of-requires
-unfolding of_two pick
-head_of-requires c = search rules
 
 pub returns-then-tag-eq1 : goal.returns-then-tag-eq1
 unfolding of_two pick
 returns-then-tag-eq1 c = rw (c.if-tag-eq1.true, c.head_of.ensures, c.from.ensures.0)
-
-pub from-requires-2 : goal.from-requires-2
-unfolding of_two pick
-from-requires-2 c = search rules
-
-pub span_of-requires : goal.span_of-requires
-unfolding of_two pick
-span_of-requires c = search rules
-
-pub from-requires-3 : goal.from-requires-3
-unfolding of_two pick
-from-requires-3 c = search rules
-
-pub sidx_of-requires : goal.sidx_of-requires
-unfolding of_two pick
-sidx_of-requires c = search rules
 
 pub returns : goal.returns
 unfolding of_two pick

@@ -2,32 +2,11 @@
 use Rattle.basics.specs.Choose.{pick}
 use Rattle.numbered.specs.Blocks.{of_two}
 use borrow.Author.Tests.{ne_eqb}
-use borrow.Author.Rules.{rules}
 use Rattle.pack.proofs.take.leaf_body_of.Goals as goal
-
-pub bounds-numbers-0 : goal.bounds-numbers-0
-unfolding of_two pick
-bounds-numbers-0 c = search rules
-
-pub bounds-numbers-1 : goal.bounds-numbers-1
-unfolding of_two pick
-bounds-numbers-1 c = search rules
 
 pub returns-then-tag-eq1 : goal.returns-then-tag-eq1
 unfolding of_two pick
 returns-then-tag-eq1 c = rw c.if-tag-eq1.true
-
-pub bounds-numbers-1-2 : goal.bounds-numbers-1-2
-unfolding of_two pick
-bounds-numbers-1-2 c = search rules
-
-pub from-requires : goal.from-requires
-unfolding of_two pick
-from-requires c = search rules
-
-pub moof_of-requires : goal.moof_of-requires
-unfolding of_two pick
-moof_of-requires c = search rules
 
 pub returns : goal.returns
 unfolding of_two pick

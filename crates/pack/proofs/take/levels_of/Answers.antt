@@ -2,28 +2,7 @@
 use Rattle.basics.specs.Choose.{pick}
 use Rattle.numbered.specs.Blocks.{of_four}
 use borrow.Author.Tests.{ne_eqb}
-use borrow.Author.Rules.{rules}
 use Rattle.pack.proofs.take.levels_of.Goals as goal
-
-pub level_from-a-requires : goal.level_from-a-requires
-unfolding of_four pick
-level_from-a-requires c = search rules
-
-pub level_from-b-requires : goal.level_from-b-requires
-unfolding of_four pick
-level_from-b-requires c = search rules
-
-pub level_from-c-requires : goal.level_from-c-requires
-unfolding of_four pick
-level_from-c-requires c = search rules
-
-pub level_from-d-requires : goal.level_from-d-requires
-unfolding of_four pick
-level_from-d-requires c = search rules
-
-pub bounds-numbers-0 : goal.bounds-numbers-0
-unfolding of_four pick
-bounds-numbers-0 c = search rules
 
 pub returns-then-tag-eq1 : goal.returns-then-tag-eq1
 unfolding of_four pick

@@ -2,32 +2,15 @@
 use Rattle.basics.specs.Choose.{pick}
 use Rattle.numbered.specs.Blocks.{of_three}
 use borrow.Author.Tests.{ne_eqb}
-use borrow.Author.Rules.{rules}
 use Rattle.pack.proofs.take.stage_of.Goals as goal
-
-pub bounds-numbers-0 : goal.bounds-numbers-0
-unfolding of_three pick
-bounds-numbers-0 c = search rules
-
-pub opening_stage_of-requires : goal.opening_stage_of-requires
-unfolding of_three pick
-opening_stage_of-requires c = search rules
 
 pub returns-then-tag-eq1 : goal.returns-then-tag-eq1
 unfolding of_three pick
 returns-then-tag-eq1 c = rw (c.if-tag-eq1.true, c.opening_stage_of.ensures)
 
-pub gap_stage_of-requires : goal.gap_stage_of-requires
-unfolding of_three pick
-gap_stage_of-requires c = search rules
-
 pub returns-then-tag-eq2 : goal.returns-then-tag-eq2
 unfolding of_three pick
 returns-then-tag-eq2 c = rw (c.if-tag-eq2.true, c.gap_stage_of.ensures)
-
-pub nested_stage_of-requires : goal.nested_stage_of-requires
-unfolding of_three pick
-nested_stage_of-requires c = search rules
 
 pub returns : goal.returns
 unfolding of_three pick

@@ -2,24 +2,11 @@
 use Rattle.basics.specs.Choose.{pick}
 use Rattle.numbered.specs.Blocks.{of_three}
 use borrow.Author.Tests.{ne_eqb}
-use borrow.Author.Rules.{rules}
 use Rattle.pack.proofs.take.traf_phase_of.Goals as goal
-
-pub bounds-numbers-0 : goal.bounds-numbers-0
-unfolding of_three pick
-bounds-numbers-0 c = search rules
 
 pub returns-then-tag-eq1 : goal.returns-then-tag-eq1
 unfolding of_three pick
 returns-then-tag-eq1 c = rw c.if-tag-eq1.true
-
-pub bounds-numbers-1 : goal.bounds-numbers-1
-unfolding of_three pick
-bounds-numbers-1 c = search rules
-
-pub is_one-requires : goal.is_one-requires
-unfolding of_three pick
-is_one-requires c = search rules
 
 pub returns-then-tag-eq2 : goal.returns-then-tag-eq2
 unfolding of_three pick
