@@ -2,7 +2,8 @@
 """Each name in README.md and docs/**/*.md exists.
 
 A word in backquotes has to be the name of a crate, a path, an edit, a module, what an .antt file declares, or what an .rt file
-declares; `a::b` is what crate or module `a` declares. Other words are listed in tests/doc_words.txt, and each of these is used.
+declares; `a::b` is what crate `a` declares, or a function of type `a`, or, with the trait's name after the type's, of an impl (`LeafListBoxList::end`
+is `end` of `impl BoxList for LeafList`); before it its file may stand. Other words are listed in tests/doc_words.txt, and each of these is used.
 
 Names that say where they stand are looked for there:
 
@@ -18,8 +19,8 @@ import re
 import sys
 
 ROOT = pathlib.Path(__file__).resolve().parent.parent
-# docs/PORT.md is left out: it names what is no more.
-DOCS = [ROOT / "README.md", *sorted(set((ROOT / "docs").glob("**/*.md")) - {ROOT / "docs/PORT.md"})]
+# docs/PORT.md and docs/DESIGN-PASS.md are left out: they name what is no more.
+DOCS = [ROOT / "README.md", *sorted(set((ROOT / "docs").glob("**/*.md")) - {ROOT / "docs/PORT.md", ROOT / "docs/DESIGN-PASS.md"})]
 WORD = re.compile(r"`([^`\n]+)`")
 LIST = r"`[^`\n]+`(?:(?:, | and )`[^`\n]+`)*"
 PLACED = re.compile(rf"`([a-z_]+)`, (?:specs )?`([A-Z]\w*)`, ({LIST})")
@@ -36,10 +37,17 @@ def declared(path):
 def written(path):
     """What an .rt file declares: functions, types, constants, modules, fields and variants."""
     text = path.read_text(encoding="utf-8")
-    found = re.findall(r"\b(?:fn|struct|enum|const|type|mod|pub use \w+::) ?(\w+)", text)
+    found = re.findall(r"\b(?:fn|struct|enum|trait|const|type|mod|pub use \w+::) ?(\w+)", text)
     found += [name for names in re.findall(r"\bpub use \w+::\{([\w, ]+)\}", text) for name in names.split(", ")]
     fields = re.findall(r"^ +(?:pub )?(\w+): \S.*,$", text, re.M)
     return {*found, *fields, *re.findall(r"^ +([A-Z]\w*)(?:,$|\(| \{)", text, re.M)}
+
+
+def methods(path):
+    """The functions of an .rt file that stand in an impl, with the type's name, and its trait's after it."""
+    for block in re.finditer(r"^impl(?:<[^{]*?>)? (?:([A-Z]\w*)(?:<[^{]*?>)? for )?(\w+)[^{]*\{\n(.*?)^\}", path.read_text(encoding="utf-8"), re.M | re.S):
+        of = block[2] + (block[1] or "")
+        yield from (f"{of}::{name}" for name in re.findall(r"^    (?:pub(?:\([a-z]+\))? )?fn (\w+)", block[3], re.M))
 
 
 class Crate:
@@ -49,6 +57,8 @@ class Crate:
             self.modules.setdefault(path.stem, set()).update(declared(path))
         code = {path.stem: path for path in folder.glob("src/*.rt")}
         self.functions = {name for path in code.values() for name in re.findall(r"\bfn (\w+)", path.read_text(encoding="utf-8"))}
+        own = {(stem, name) for stem, path in code.items() for name in methods(path)}
+        self.functions |= {name for _, name in own} | {f"{stem}::{name}" for stem, name in own}
         self.names = set(self.modules) | {word for names in self.modules.values() for word in names}
         self.names |= {word for path in code.values() for word in written(path)}
         self.edits = {path.stem for path in folder.glob("must-fail/*.edit")}
@@ -67,8 +77,10 @@ def words(text):
 def exists(word):
     if word in KNOWN or word in OTHERS or (ROOT / word).exists():
         return True
-    crate, _, name = word.partition("::")
-    return crate in CRATES and name in CRATES[crate].names
+    of, _, name = word.partition("::")
+    if of in CRATES:
+        return name in CRATES[of].names
+    return any(word in crate.functions or of in crate.names and name in crate.functions for crate in CRATES.values())
 
 
 def in_module(crate, module, names):

@@ -1,71 +1,71 @@
 // What is written goes through a buffer, which is written out when it is full and after each answer.
-ghost use Rattle.std.specs.Prelude.{◌+◌, ◌≤◌, ◌≡◌, length};
+ghost use Rattle.std.specs.Prelude.{◌+◌, ◌++◌, ◌<◌, ◌≡◌, ◌≤◌, List, ℕ, [], length, take};
+ghost use Rattle.std.specs.Int.{to_be_bytes, w64};
 
-// How long the buffer is at least: a number has eight bytes.
-const NUMBER_BYTES: usize = 8;
+use std::marker::Model;
 
-// Writes what the buffer holds. A write that fails is not told: the reader of this program's output sees that it ends.
-pub fn write_out(rt: &impl Print, out: &[u8], at: usize) {
-    let from = 0;
-    if at <= out.len() {
-        let _ = rt.write_all(&out[from..at]);
-    }
+// How many bytes the buffer holds at most.
+const MOST_HELD: usize = 65536;
+
+// Where the answers go, and the bytes that are not written out yet: a buffer with a count, as no crate here takes memory from a heap.
+#[derive(Drop)]
+pub struct Output<'a, P> {
+    to: &'a P,
+    held: [u8; MOST_HELD],
+    count: usize,
 }
 
-// Where in the buffer the next eight bytes have room: behind what it holds, or at its start once that was written.
-fn room(rt: &impl Print, out: &[u8], at: usize) -> usize
-    requires { 8 ≤ length out.now }
-    ensures { result + 8 ≤ length out.now }
-{
-    if at <= out.len() - NUMBER_BYTES {
-        return at;
-    }
-    write_out(rt, out, at);
-    0
+// What the buffer holds.
+impl<'a, P> Model for Output<'a, P> {
+    ghost Value = { List ℕ };
+
+    ghost view = { λ o. take o.count o.held };
+
+    ghost invariant = { λ o. o.count ≤ 65536 };
 }
 
-fn put_byte(rt: &impl Print, out: &mut [u8], at: usize, b: u8) -> usize {
-    if out.len() < NUMBER_BYTES {
-        return at;
+impl<'a, P: Print> Output<'a, P> {
+    pub fn new(to: &'a P) -> Self
+        ensures { result ≡ [] }
+    {
+        Output {
+            to,
+            held: [0; MOST_HELD],
+            count: 0,
+        }
     }
-    let i = room(rt, out, at);
-    out[i] = b;
-    i + 1
-}
 
-// A number, its highest byte first.
-pub fn put_number(rt: &impl Print, out: &mut [u8], at: usize, n: u64) -> usize {
-    if out.len() < NUMBER_BYTES {
-        return at;
+    // Writes what the buffer holds. A write that fails is not told: the reader of this program's output sees that it ends.
+    pub fn write_out(&mut self)
+        ensures { self.new ≡ [] }
+    {
+        let _ = self.to.write_all(&self.held[..self.count]);
+        self.count = 0;
     }
-    let i = room(rt, out, at);
-    out[i] = (n / 72057594037927936) as u8;
-    out[i + 1] = (n / 281474976710656 % 256) as u8;
-    out[i + 2] = (n / 1099511627776 % 256) as u8;
-    out[i + 3] = (n / 4294967296 % 256) as u8;
-    out[i + 4] = (n / 16777216 % 256) as u8;
-    out[i + 5] = (n / 65536 % 256) as u8;
-    out[i + 6] = (n / 256 % 256) as u8;
-    out[i + 7] = (n % 256) as u8;
-    i + 8
-}
 
-pub fn put_bytes(rt: &impl Print, out: &mut [u8], at: usize, bytes: &[u8]) -> usize {
-    let mut next = at;
-    let mut i = 0;
-    while i < bytes.len() {
-        next = put_byte(rt, out, next, bytes[i]);
-        i += 1;
+    // Bytes behind those that are held; more than the buffer can hold are written out at once.
+    pub fn put(&mut self, bytes: &[u8])
+        ensures behind { length self.old + length bytes.now ≤ 65536 → self.new ≡ self.old ++ bytes.now }
+        ensures anew { 65536 < length self.old + length bytes.now → length bytes.now ≤ 65536 → self.new ≡ bytes.now }
+        ensures none { 65536 < length bytes.now → self.new ≡ [] }
+    {
+        let n = bytes.len();
+        if MOST_HELD - self.count < n {
+            self.write_out();
+        }
+        if MOST_HELD < n {
+            let _ = self.to.write_all(bytes);
+            return;
+        }
+        self.held[self.count..self.count + n].copy_from_slice(bytes);
+        self.count += n;
     }
-    next
-}
 
-pub fn put_numbers(rt: &impl Print, out: &mut [u8], at: usize, numbers: &[u64]) -> usize {
-    let mut next = at;
-    let mut i = 0;
-    while i < numbers.len() {
-        next = put_number(rt, out, next, numbers[i]);
-        i += 1;
+    // A number, its highest byte first.
+    pub fn put_number(&mut self, n: u64)
+        ensures behind { length self.old + 8 ≤ 65536 → self.new ≡ self.old ++ to_be_bytes w64 n }
+        ensures anew { 65536 < length self.old + 8 → self.new ≡ to_be_bytes w64 n }
+    {
+        self.put(&n.to_be_bytes());
     }
-    next
 }

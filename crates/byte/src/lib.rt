@@ -12,8 +12,8 @@ ghost use Rattle.state.specs.Ranges.{Within, stage_bounds, InRange};
 ghost use Rattle.state.specs.declared.State.TheVariants as state;
 ghost use Rattle.byte.specs.Answers.{answered, stepped};
 
-use levels::{EntryRead, read_back};
-use machine::Refusal;
+use levels::read_back;
+use machine::{Refusal, Step};
 use next_stage::{Running, StageStep};
 use number_at_hand::stage_number;
 use stage::stage_byte;
@@ -45,18 +45,16 @@ fn limit_row(s: Stage, at: u64, work: &[u8]) -> Refusal
     requires { (work_bytes ≤ length work.now) × Within (stage_bounds s at) }
     ensures { (leaves last : ℕ) (table : List ℕ) → result ≡ over_limit s (flow_of leaves at last work.now table) limit (refusal 3 limit) }
 {
-    let over = over_limit();
-    let Stage::Entry { top: _, levels } = s else {
-        return over;
+    let Stage::Entry { levels, .. } = s else {
+        return over_limit();
     };
-    let read = read_back(work, levels, at, LIMIT);
-    let EntryRead::Stands(_, _) = read else {
-        return Refusal {
+    match read_back(work, levels, at, LIMIT) {
+        Some(_) => over_limit(),
+        None => Refusal {
             number: 12,
             place: LIMIT,
-        };
-    };
-    over
+        },
+    }
 }
 
 // An entry byte is stored at its place, and no other byte is.
@@ -64,12 +62,9 @@ fn store_byte(s: Stage, at: u64, b: u8, work: &mut [u8])
     requires { (work_bytes ≤ length work.old) × Within (stage_bounds s at) }
     ensures { work.new ≡ stored_at work.old (stage_byte s) b }
 {
-    let x = stage_number(s, at);
-    if !x.stored {
-        return;
+    if let Some(i) = stage_number(s, at).place {
+        work[i as usize] = b;
     }
-    let i = x.place as usize;
-    work[i] = b;
 }
 
 // The byte past the limit, in the segment.
@@ -85,25 +80,26 @@ fn limit_byte(r: Running, s: Stage, b: u8, work: &mut [u8]) -> State
 }
 
 // The state that a stage's step at byte `n` leads to.
-fn state_after(n: u64, leaves: u64, q: StageStep) -> State
+#[tactic(auto, unfolding(crate::specs::Answers::stepped))]
+fn state_after(n: u64, leaves: u64, q: Result<StageStep, Refusal>) -> State
     requires { n ≤ limit }
     ensures { result ≡ stepped n leaves q }
 {
     let count = n + 1;
     match q {
-        StageStep::Go(stage, r) => State::Reading {
+        Ok(Step::Going((stage, r))) => State::Reading {
             count,
             leaves: r.leaves,
             now: r.now,
             last: r.last,
             stage,
         },
-        StageStep::Done(top, r) => State::Ended {
+        Ok(Step::Done((top, r))) => State::Ended {
             count,
             leaves: r.leaves,
             top,
         },
-        StageStep::Bad(refusal) => State::Refused {
+        Err(refusal) => State::Refused {
             count,
             leaves,
             refusal,
@@ -155,15 +151,7 @@ pub fn state_byte(s: State, b: u8, work: &mut [u8], table: &mut [u64]) -> State
             stage,
         } => reading_byte(count, Running { leaves, now, last }, stage, b, work, table),
         State::Ended { count, leaves, top } => byte_after(count, leaves, top, b),
-        State::Refused {
-            count: _,
-            leaves: _,
-            refusal: _,
-        } => s,
-        State::Accepted {
-            count: _,
-            leaves: _,
-            top: _,
-        } => s,
+        State::Refused { .. } => s,
+        State::Accepted { .. } => s,
     }
 }

@@ -1,12 +1,12 @@
 // The lines of a file of data: each is one case, its first field the name.
 use cases_cuttings::{Tally, run_segment};
 use cases_data::files::read_file;
-use cases_data::text::{decode, field, line_at, next_line, part};
+use cases_data::text::{decode, field};
 use cases_script::run_script;
-use cases_trial::prints::{print, print_number};
+use cases_trial::prints::{print, show};
 use std::rt::Files;
 
-// What a file's lines are.
+// What a file's lines are. Each kind is an arm below; a closure for each would take `rt`, the line, the buffer and the tally again.
 #[derive(Clone, Copy)]
 pub enum LineKind {
     // name, segment
@@ -19,58 +19,32 @@ pub enum LineKind {
     Script,
 }
 
-fn load(rt: &(impl Files + Eprint), kind: LineKind, line: &[u8], into: &mut [u8]) -> usize {
-    match kind {
-        LineKind::Made => decode(field(line, 1), into),
-        LineKind::Vector => decode(field(line, 0), into),
-        LineKind::Real => read_file(rt, field(line, 0), into),
-        LineKind::Script => decode(field(line, 1), into),
-    }
-}
-
 fn print_name(rt: &impl Print, kind: LineKind, line: &[u8], k: u64) {
     match kind {
-        LineKind::Vector => {
-            print(rt, b"vector ");
-            print_number(rt, k);
-        }
+        LineKind::Vector => show(rt, format_args!("vector {k}")),
         _ => print(rt, field(line, 0)),
     }
     print(rt, b":");
 }
 
-// Of a segment of n bytes; in a script, what follows it may be fed too, zeros among it.
+// In a script, what follows the segment may be fed too, zeros among it.
 fn run_case(
-    rt: &impl Print,
-    kind: LineKind,
-    line: &[u8],
-    bytes: &[u8],
-    n: usize,
-    tally: Tally,
-) -> Tally {
-    match kind {
-        LineKind::Script => {
-            run_script(rt, field(line, 2), field(line, 3), bytes);
-            tally
-        }
-        LineKind::Made => run_segment(rt, part(bytes, 0, n), true, tally),
-        _ => run_segment(rt, part(bytes, 0, n), false, tally),
-    }
-}
-
-fn run_line(
     rt: &(impl Files + Print + Eprint),
     kind: LineKind,
     line: &[u8],
-    k: u64,
     into: &mut [u8],
     tally: Tally,
 ) -> Tally {
-    print_name(rt, kind, line, k);
-    let n = load(rt, kind, line, into);
-    let after = run_case(rt, kind, line, into, n, tally);
-    print(rt, b"\n");
-    after
+    match kind {
+        LineKind::Made => run_segment(rt, decode(field(line, 1), into), true, tally),
+        LineKind::Vector => run_segment(rt, decode(field(line, 0), into), false, tally),
+        LineKind::Real => run_segment(rt, read_file(rt, field(line, 0), into), false, tally),
+        LineKind::Script => {
+            decode(field(line, 1), into);
+            run_script(rt, field(line, 2), field(line, 3), into);
+            tally
+        }
+    }
 }
 
 pub fn run_lines(
@@ -81,16 +55,11 @@ pub fn run_lines(
     before: Tally,
 ) -> Tally {
     let mut tally = before;
-    let mut from = 0;
-    let mut k: u64 = 0;
-    while from < text.len() {
-        k = k.wrapping_add(1);
-        tally = run_line(rt, kind, line_at(text, from), k, into, tally);
-        let next = next_line(text, from);
-        if next <= from {
-            return tally;
-        }
-        from = next;
+    for (k, ended) in (1..).zip(text.split_inclusive(|&b| b == b'\n')) {
+        let line = ended.strip_suffix(b"\n").unwrap_or(ended);
+        print_name(rt, kind, line, k);
+        tally = run_case(rt, kind, line, into, tally);
+        print(rt, b"\n");
     }
     tally
 }

@@ -1,9 +1,10 @@
 -- One piece more of a reading in pieces: what is held, and what was answered, so far and in the rest.
+use Rattle.std.specs.Prelude.{ℕ, Result}
 use Rattle.std.proofs.Common.{◌≡◌, ℕ, suc, ◌+◌, ◌-◌, ◌<◌, min, Bool, true, ◌&&◌, ◌↔◌, List, length, sym, refl, ap, ◌∙◌, subst, arith}
 use native.Mathlib.Nat.{sub-zero}
 use Rattle.basics.proofs.Tests.{and_both}
+use Rattle.machine.specs.declared.Refusal.{Refusal}
 use Rattle.state.specs.Calls.{Out}
-use Rattle.state.specs.declared.FeedAnswer.{FeedAnswer}
 use Rattle.cases_data.specs.Parts.{bytes_from}
 use Rattle.cases_trial.specs.Ends.{answer_at}
 use Rattle.cases_trial.specs.declared.alike.End.{End}
@@ -14,7 +15,7 @@ use Rattle.cases_cuttings.specs.Readings.{fed_pieces, Answer, ReadsAlike}
 both_and : (a b : Bool) → a ≡ true → b ≡ true → a && b ≡ true
 both_and a b e k = rw (e, k)
 
-module _ (segment : List ℕ) (long from to next : ℕ) (h : Held) (o : Out FeedAnswer) (fed : o ≡ feed_held h (bytes_from segment from to)) (on : next ≡ min (to + long) (length segment)) where
+module _ (segment : List ℕ) (long from to next : ℕ) (h : Held) (o : Out (Result ℕ Refusal)) (fed : o ≡ feed_held h (bytes_from segment from to)) (on : next ≡ min (to + long) (length segment)) where
   -- what is held after the rest of the pieces
   step_held : (k : ℕ) → fed_pieces k segment long to next (held_after o) ≡ fed_pieces (suc k) segment long from to h
   unfolding fed_pieces

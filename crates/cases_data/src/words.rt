@@ -10,31 +10,24 @@ pub struct Lent {
 
 // Four letters, or else `msdh`.
 pub fn brand_of(text: &[u8]) -> [u8; 4] {
-    if text.len() < 4 {
-        return [b'm', b's', b'd', b'h'];
-    }
-    [text[0], text[1], text[2], text[3]]
+    text.first_chunk().copied().unwrap_or(*b"msdh")
 }
 
 // How often a piece is fed: once, if the word does not say.
 pub fn times(word: &[u8]) -> u64 {
-    let k = nth(word, 2);
-    if k == 0 {
-        return 1;
-    }
-    k
+    nth(word, 2).max(1)
 }
 
 // What is lent from a word on.
 pub fn lent_after(word: &[u8], lent: Lent) -> Lent {
     match letter(word) {
-        b'a' => Lent {
+        Some(b'a') => Lent {
             bytes: nth(word, 0) as usize,
-            numbers: lent.numbers,
+            ..lent
         },
-        b't' => Lent {
-            bytes: lent.bytes,
+        Some(b't') => Lent {
             numbers: nth(word, 0) as usize,
+            ..lent
         },
         _ => lent,
     }
@@ -42,17 +35,14 @@ pub fn lent_after(word: &[u8], lent: Lent) -> Lent {
 
 // The bytes that a word gives, at their place.
 pub fn put_bytes(word: &[u8], work: &mut [u8]) {
-    let at = nth(word, 0) as usize;
-    let to = work.len();
-    if at <= to {
-        decode(given(word, 1), &mut work[at..to]);
+    if let Some(into) = work.get_mut(nth(word, 0) as usize..) {
+        decode(given(word, 1), into);
     }
 }
 
 // The number that a word gives, at its place.
 pub fn put_number(word: &[u8], table: &mut [u64]) {
-    let at = nth(word, 0) as usize;
-    if at < table.len() {
-        table[at] = nth(word, 1);
+    if let Some(n) = table.get_mut(nth(word, 0) as usize) {
+        *n = nth(word, 1);
     }
 }

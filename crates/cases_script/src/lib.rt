@@ -13,20 +13,20 @@
 // c n: the state of a reading has n for its count of bytes read
 #![tactic(auto)]
 
-use cases_data::buffers::{FILL_BYTE, FILL_NUMBER, lent_bytes, lent_numbers};
-use cases_data::text::{letter, nth, part, word};
+use cases_data::buffers::{FILL_BYTE, FILL_NUMBER, lent};
+use cases_data::text::{letter, nth, part};
 use cases_data::words::{Lent, brand_of, lent_after, times};
 use cases_states::state_of;
 use cases_trial::lent::change_lent;
-use cases_trial::prints::{print, print_end, print_fed, print_found, print_number};
+use cases_trial::prints::{print_end, print_fed, print_found, show};
 use doubles::double_of;
 use feed::{feed, finish, start};
 use lookup::lookup;
 use marks::{Mark, resolve};
 use moment::Request;
-use state::{FeedAnswer, State};
+use state::State;
 
-// No script has more words; a word that is not there does nothing.
+// No script has more words.
 const MOST_WORDS: usize = 16;
 
 // A piece fed k times.
@@ -39,7 +39,7 @@ fn run_feed(
     table: &mut [u64],
 ) -> State {
     let mut state = s;
-    let mut answer = FeedAnswer::Read(0);
+    let mut answer = Ok(0);
     for _ in 0..k {
         let fed = feed(state, piece, work, table);
         state = fed.state;
@@ -51,17 +51,16 @@ fn run_feed(
 
 fn run_finish(rt: &impl Print, s: State, table: &[u64]) -> State {
     let finished = finish(s);
-    let answer = finished.answer;
-    print_end(rt, answer, table);
+    print_end(rt, finished.answer, table);
     finished.state
 }
 
 // The time that a word asks for.
 fn request_of(word: &[u8]) -> Request {
-    if letter(word) == b'l' {
-        return Request::Ticks(nth(word, 0));
+    match letter(word) {
+        Some(b'l') => Request::Ticks(nth(word, 0)),
+        _ => Request::Seconds(double_of(nth(word, 0))),
     }
-    Request::Seconds(double_of(nth(word, 0)))
 }
 
 fn mark_of(word: &[u8]) -> Mark {
@@ -73,10 +72,8 @@ fn mark_of(word: &[u8]) -> Mark {
 
 fn run_mark(rt: &impl Print, mark: Mark, s: State, table: &[u64]) -> State {
     let resolved = resolve(s, table, mark);
-    print(rt, b" page ");
-    print_number(rt, resolved.page as u64);
-    let answer = resolved.answer;
-    print_found(rt, answer);
+    show(rt, format_args!(" page {}", resolved.page));
+    print_found(rt, resolved.answer);
     s
 }
 
@@ -88,23 +85,22 @@ fn run_word(
     work: &mut [u8],
     table: &mut [u64],
 ) -> State {
-    let c = letter(word);
-    if c == b'f' {
-        let piece = part(bytes, nth(word, 0) as usize, nth(word, 1) as usize);
-        return run_feed(rt, times(word), piece, s, work, table);
+    match letter(word) {
+        Some(b'f') => {
+            let piece = part(bytes, nth(word, 0) as usize, nth(word, 1) as usize);
+            run_feed(rt, times(word), piece, s, work, table)
+        }
+        Some(b'e') => run_finish(rt, s, table),
+        Some(b'l' | b'd') => {
+            print_found(rt, lookup(s, table, request_of(word)));
+            s
+        }
+        Some(b'm') => run_mark(rt, mark_of(word), s, table),
+        _ => {
+            change_lent(rt, word, work, table);
+            state_of(word, s)
+        }
     }
-    if c == b'e' {
-        return run_finish(rt, s, table);
-    }
-    if c == b'l' || c == b'd' {
-        print_found(rt, lookup(s, table, request_of(word)));
-        return s;
-    }
-    if c == b'm' {
-        return run_mark(rt, mark_of(word), s, table);
-    }
-    change_lent(rt, word, work, table);
-    state_of(c, word, s)
 }
 
 fn run_words(
@@ -116,20 +112,19 @@ fn run_words(
     table: &mut [u64],
 ) {
     let mut s = start(brand);
-    let mut lent = Lent {
+    let mut most = Lent {
         bytes: 49152,
         numbers: 1536,
     };
-    for k in 0..MOST_WORDS {
-        let next = word(words, k);
-        lent = lent_after(next, lent);
+    for word in words.split(|&c| c == b' ').take(MOST_WORDS) {
+        most = lent_after(word, most);
         s = run_word(
             rt,
-            next,
+            word,
             bytes,
             s,
-            lent_bytes(work, lent.bytes),
-            lent_numbers(table, lent.numbers),
+            lent(work, most.bytes),
+            lent(table, most.numbers),
         );
     }
 }

@@ -1,9 +1,9 @@
 // States made from the numbers that a word of a script gives.
 #![tactic(auto)]
 
-use cases_data::text::nth;
-use machine::{Head, Refusal};
-use state::{Level, Levels, OpeningBoxes, Stage, State, Top};
+use cases_data::text::{letter, nth};
+use machine::{BoxesSo, Head, Refusal};
+use state::{Level, Levels, Stage, State, Top};
 
 // In the size of the first box: how many bytes of it follow, and what those before them spell.
 fn in_size(word: &[u8]) -> State {
@@ -14,7 +14,7 @@ fn in_size(word: &[u8]) -> State {
         last: 0,
         stage: Stage::Opening {
             brand: 0,
-            boxes: OpeningBoxes::Head(
+            boxes: BoxesSo::Head(
                 false,
                 Head::Size {
                     pos: 0,
@@ -91,34 +91,33 @@ fn at_entry(word: &[u8]) -> State {
 
 // The state that there is, if it is one of a reading, with another count of bytes read.
 fn counted(s: State, count: u64) -> State {
-    let State::Reading {
-        count: _,
-        leaves,
-        now,
-        last,
-        stage,
-    } = s
-    else {
-        return s;
-    };
-    State::Reading {
-        count,
-        leaves,
-        now,
-        last,
-        stage,
+    match s {
+        State::Reading {
+            leaves,
+            now,
+            last,
+            stage,
+            ..
+        } => State::Reading {
+            count,
+            leaves,
+            now,
+            last,
+            stage,
+        },
+        _ => s,
     }
 }
 
-// A state, by the letter of a word and the numbers that it gives; where no state has the letter, the one that there is.
-pub fn state_of(letter: u8, word: &[u8], s: State) -> State {
-    match letter {
-        b'S' => in_size(word),
-        b'M' => ended(word),
-        b'R' => refused(word),
-        b'A' => accepted(word),
-        b'E' => at_entry(word),
-        b'c' => counted(s, nth(word, 0)),
+// A state, by a word's letter and the numbers that it gives; where no state has the letter, the one that there is.
+pub fn state_of(word: &[u8], s: State) -> State {
+    match letter(word) {
+        Some(b'S') => in_size(word),
+        Some(b'M') => ended(word),
+        Some(b'R') => refused(word),
+        Some(b'A') => accepted(word),
+        Some(b'E') => at_entry(word),
+        Some(b'c') => counted(s, nth(word, 0)),
         _ => s,
     }
 }

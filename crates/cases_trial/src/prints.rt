@@ -1,9 +1,9 @@
 // What is printed of an answer. The text of a listing is that of the crate `listing`, its lines joined by `/`.
 use cases_data::text::part;
-use covering::LookupAnswer;
+use covering::Leaf;
 use listing::{Line, heading, leaf_line, refused_line, table_line};
 use machine::Refusal;
-use state::{FeedAnswer, FinishAnswer};
+use std::fmt::Display;
 use table::NUMBERS;
 
 // What cannot be written is left out, and no more is said of it: what is compared is what was printed.
@@ -11,13 +11,13 @@ pub fn print(rt: &impl Print, text: &[u8]) {
     let _ = rt.write_all(text);
 }
 
-pub fn print_number(rt: &impl Print, n: u64) {
-    let _ = rt.print(n);
+// A number, or a text with numbers in it.
+pub fn show(rt: &impl Print, what: impl Display + Drop) {
+    let _ = rt.print(what);
 }
 
 fn print_line(rt: &impl Print, line: Line) {
-    let bytes = line.bytes;
-    print(rt, part(&bytes, 0, line.length));
+    print(rt, part(&line.bytes, 0, line.length));
 }
 
 fn print_refusal(rt: &impl Print, r: Refusal) {
@@ -25,14 +25,11 @@ fn print_refusal(rt: &impl Print, r: Refusal) {
 }
 
 // `K read`, or a refusal.
-pub fn print_fed(rt: &impl Print, answer: FeedAnswer) {
+pub fn print_fed(rt: &impl Print, answer: Result<u64, Refusal>) {
     print(rt, b" ");
     match answer {
-        FeedAnswer::Read(count) => {
-            print_number(rt, count);
-            print(rt, b" read");
-        }
-        FeedAnswer::Refused(refusal) => print_refusal(rt, refusal),
+        Ok(count) => show(rt, format_args!("{count} read")),
+        Err(refusal) => print_refusal(rt, refusal),
     }
     print(rt, b";");
 }
@@ -44,41 +41,32 @@ fn print_leaf(rt: &impl Print, table: &[u64], i: usize) {
 }
 
 fn print_leaves(rt: &impl Print, leaves: u64, table: &[u64]) {
-    let mut i = 0;
-    while i < table.len() / NUMBERS && (i as u64) < leaves {
+    for i in 0..(table.len() / NUMBERS).min(leaves as usize) {
         print_leaf(rt, table, i);
-        i += 1;
-    }
-}
-
-fn leaf_count(answer: FinishAnswer) -> u64 {
-    match answer {
-        FinishAnswer::Listed(leaves) => leaves,
-        FinishAnswer::Refused(_) => 0,
     }
 }
 
 // The whole listing in one line.
-pub fn print_listing(rt: &impl Print, answer: FinishAnswer, table: &[u64]) {
+pub fn print_listing(rt: &impl Print, answer: Result<u64, Refusal>, table: &[u64]) {
     print_line(rt, heading(answer));
-    print_leaves(rt, leaf_count(answer), table);
+    if let Ok(leaves) = answer {
+        print_leaves(rt, leaves, table);
+    }
 }
 
 // The listing, as the answer of a word.
-pub fn print_end(rt: &impl Print, answer: FinishAnswer, table: &[u64]) {
+pub fn print_end(rt: &impl Print, answer: Result<u64, Refusal>, table: &[u64]) {
     print(rt, b" ");
     print_listing(rt, answer, table);
     print(rt, b";");
 }
 
 // The leaf's number and record, or a refusal.
-pub fn print_found(rt: &impl Print, answer: LookupAnswer) {
+pub fn print_found(rt: &impl Print, answer: Result<Leaf, Refusal>) {
     print(rt, b" ");
     match answer {
-        LookupAnswer::Found(leaf, r) => {
-            print_line(rt, leaf_line(leaf, r));
-        }
-        LookupAnswer::Refused(refusal) => print_refusal(rt, refusal),
+        Ok(leaf) => print_line(rt, leaf_line(leaf.number, leaf.record)),
+        Err(refusal) => print_refusal(rt, refusal),
     }
     print(rt, b";");
 }

@@ -1,13 +1,13 @@
 -- A segment read whole, by the definition of start, one feed of all its bytes and finish; and when that is alike to an end.
-use Rattle.std.specs.Prelude.{ℕ, ◌≡◌, List}
+use Rattle.std.specs.Prelude.{ℕ, ◌≡◌, List, Result}
+use Rattle.machine.specs.declared.Refusal.{Refusal}
 use Rattle.state.specs.Calls.{Out, whole_of}
-use Rattle.state.specs.declared.FinishAnswer.{FinishAnswer}
 use Rattle.cases_data.specs.Lent.{msdh}
 use Rattle.cases_trial.specs.Ends.{end_of}
 use Rattle.cases_trial.specs.declared.alike.End.{End}
 
 -- the answer and the state that the reading leaves, as an end
-abbrev pub end_in : Out FinishAnswer → End
+abbrev pub end_in : Out (Result ℕ Refusal) → End
 end_in o = end_of o.answer o.state
 
 -- the end of the reading, and what it leaves in the buffers

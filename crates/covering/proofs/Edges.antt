@@ -1,4 +1,5 @@
 -- Rule 7 at the edges of a record: its start is covered, its end is not; only whole ticks matter to a leaf. And the order of a lookup's checks.
+use Rattle.std.specs.Prelude.{Err}
 use Prim.Native.Nat.{ℕ, ◌+◌, ◌*◌, ◌/◌, ◌≤◌, ◌<◌}
 use mathlib.Core.Path.{◌≡◌, refl, ap, ◌∙◌}
 use mathlib.Core.List.{List}
@@ -23,7 +24,6 @@ use Rattle.machine.specs.Faults.{refusal}
 use Rattle.state.specs.declared.Top.{Top}
 use Rattle.state.specs.declared.State.TheVariants as state
 use Rattle.state.specs.Ranges.{in_range}
-use Rattle.covering.specs.declared.LookupAnswer.TheVariants as answer
 use Rattle.covering.specs.Lookup.{record_covers, look_at, lookup_state, lookup_of}
 use Rattle.covering.specs.Records.{leaf_covers}
 
@@ -77,14 +77,14 @@ covers_tick l t = let e : t / 1 ≡ t = omega arith in covers_whole l (tick t) (
 
 -- With an accepted state inside the ranges, a table shorter than the list gives 25, whatever was asked for.
 pub short_first : (n leaves : ℕ) (top : Top) (table : List ℕ) (r : Request) → in_range (state.Accepted n leaves top) ≡ true → length table < record_numbers * leaves →
-    lookup_of (state.Accepted n leaves top) table r ≡ answer.Refused (refusal 25 0)
+    lookup_of (state.Accepted n leaves top) table r ≡ Err (refusal 25 0)
 unfolding lookup_of lookup_state
 short_first n leaves top table r inside short =
     pick_yes (in_range (state.Accepted n leaves top)) _ _ inside ∙ pick_yes (ltb (length table) (record_numbers * leaves)) _ _ (lt-ltb (length table) (record_numbers * leaves) short)
 
 -- With a table that is long enough, what is no time gives 26, whatever the table holds.
 pub no_time_next : (n leaves : ℕ) (top : Top) (table : List ℕ) (r : Request) → in_range (state.Accepted n leaves top) ≡ true → record_numbers * leaves ≤ length table →
-    moment_of r top.scale ≡ none → lookup_of (state.Accepted n leaves top) table r ≡ answer.Refused (refusal 26 0)
+    moment_of r top.scale ≡ none → lookup_of (state.Accepted n leaves top) table r ≡ Err (refusal 26 0)
 unfolding lookup_of lookup_state look_at
 no_time_next n leaves top table r inside long no_time =
     pick_yes (in_range (state.Accepted n leaves top)) _ _ inside

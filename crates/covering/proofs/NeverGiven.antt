@@ -1,6 +1,7 @@
 -- Row 2 of a lookup is never given for a state that start, feed or finish returned, save one from outside the ranges handed back unchanged:
 -- by what they return (crate `state`, `NeverGiven`), and since inside the ranges a lookup gives none but 22 to 26. And 26 is given exactly for
 -- what is no time, so never for ticks.
+use Rattle.std.specs.Prelude.{Result, Err}
 use Prim.Native.Nat.{ℕ, zero, suc, ◌*◌, ◌≤◌}
 use mathlib.Core.Path.{◌≡◌, refl, ap, sym, ◌∙◌}
 use mathlib.Core.List.{List}
@@ -25,15 +26,14 @@ use Rattle.state.specs.Ranges.{in_range, InRange}
 use Rattle.state.proofs.RangeTests.{in_range_lem}
 use Rattle.state.proofs.NeverGiven.{Returned, HandedBack, returned, Chain, chain_in_range}
 use Rattle.covering.specs.Lookup.{covering_from, outside, found, look_at, lookup_state, lookup_of}
-use Rattle.covering.specs.declared.LookupAnswer.{LookupAnswer}
-use Rattle.covering.specs.declared.LookupAnswer.TheVariants as answer
 use Rattle.covering.proofs.Edges.{no_time_next}
+use Rattle.covering.specs.declared.Leaf.{Leaf}
 
 -- an answer that does not give this number
-abbrev Not : ℕ → LookupAnswer → Type 0
-Not k a = (x : Refusal) → a ≡ answer.Refused x → x.number ≢ k
+abbrev Not : ℕ → Result Leaf Refusal → Type 0
+Not k a = (x : Refusal) → a ≡ Err x → x.number ≢ k
 
-refused_not : (k : ℕ) (y : Refusal) → y.number ≢ k → Not k (answer.Refused y)
+refused_not : (k : ℕ) (y : Refusal) → y.number ≢ k → Not k (Err y)
 refused_not k y other x e same = let q : y ≡ x = cc in other (ap (λ (z : Refusal). z.number) q ∙ same)
 
 -- among the leaves only 23 and 24 are given
@@ -69,7 +69,7 @@ looking_not s table r =
     (λ leaves scale. moment_not 2 (λ e. omega arith) (λ e. omega arith) (λ e. omega arith) leaves table (moment_of r scale))
 
 -- A request that is a time whatever the timescale never gets 26: one in ticks never does.
-pub ticks_never_26 : (s : State) (table : List ℕ) (t : ℕ) (x : Refusal) → lookup_of s table (request.Ticks t) ≡ answer.Refused x → x.number ≢ 26
+pub ticks_never_26 : (s : State) (table : List ℕ) (t : ℕ) (x : Refusal) → lookup_of s table (request.Ticks t) ≡ Err x → x.number ≢ 26
 unfolding lookup_of moment_of look_at
 ticks_never_26 s table t =
     pick_holds (Not 26) (in_range s) _ _
@@ -79,7 +79,7 @@ ticks_never_26 s table t =
 
 -- With an accepted state inside the ranges and a table that is long enough, 26 is given exactly for what is no time.
 pub no_time_exactly : (n leaves : ℕ) (top : Top) (table : List ℕ) (r : Request) → in_range (state.Accepted n leaves top) ≡ true → record_numbers * leaves ≤ length table →
-    (lookup_of (state.Accepted n leaves top) table r ≡ answer.Refused (refusal 26 0)) ↔ (moment_of r top.scale ≡ none)
+    (lookup_of (state.Accepted n leaves top) table r ≡ Err (refusal 26 0)) ↔ (moment_of r top.scale ≡ none)
 unfolding lookup_of lookup_state look_at
 no_time_exactly n leaves top table r inside long = (λ e. at (moment_of r top.scale) (sym given ∙ e), no_time_next n leaves top table r inside long)
   where
@@ -88,19 +88,19 @@ no_time_exactly n leaves top table r inside long = (λ e. at (moment_of r top.sc
         pick_yes (in_range (state.Accepted n leaves top)) _ _ inside
         ∙ pick_no (ltb (length table) (record_numbers * leaves)) _ _ (le-ltb (length table) (record_numbers * leaves) long)
 
-    at : (o : Option Moment) → look_at leaves table o ≡ answer.Refused (refusal 26 0) → o ≡ none
+    at : (o : Option Moment) → look_at leaves table o ≡ Err (refusal 26 0) → o ≡ none
     at none e = refl
     at (some t) e = absurd (found_not 26 (λ q. omega arith) (λ q. omega arith) leaves table t (covering_from leaves 0 table t) (refusal 26 0) e refl)
 
 -- Inside the ranges no lookup gives 2.
-pub lookup_not_two : (s : State) (table : List ℕ) (r : Request) (x : Refusal) → InRange s → lookup_of s table r ≡ answer.Refused x → x.number ≢ 2
+pub lookup_not_two : (s : State) (table : List ℕ) (r : Request) (x : Refusal) → InRange s → lookup_of s table r ≡ Err x → x.number ≢ 2
 unfolding lookup_of
 lookup_not_two s table r x inside e = looking_not s table r x (sym (pick_yes (in_range s) _ _ ((in_range_lem s).1 inside)) ∙ e)
 
 -- A state that start, feed or finish returned and for which a lookup gives 2 is one from outside the ranges that was handed back unchanged.
-pub lookup_never_given : {s : State} (back : Returned s) (table : List ℕ) (r : Request) (x : Refusal) → lookup_of s table r ≡ answer.Refused x → x.number ≡ 2 → HandedBack back
+pub lookup_never_given : {s : State} (back : Returned s) (table : List ℕ) (r : Request) (x : Refusal) → lookup_of s table r ≡ Err x → x.number ≡ 2 → HandedBack back
 lookup_never_given {s} back table r x e two = ⊎_elim (λ inside. absurd (lookup_not_two s table r x inside e two)) (λ handed. handed) (returned back)
 
 -- For a state that comes of a start by calls one after another no lookup gives 2.
-pub chain_never_looked_up : {s : State} → Chain s → (table : List ℕ) (r : Request) (x : Refusal) → lookup_of s table r ≡ answer.Refused x → x.number ≢ 2
+pub chain_never_looked_up : {s : State} → Chain s → (table : List ℕ) (r : Request) (x : Refusal) → lookup_of s table r ≡ Err x → x.number ≢ 2
 chain_never_looked_up {s} c table r x e = lookup_not_two s table r x (chain_in_range c) e

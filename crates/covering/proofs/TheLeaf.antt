@@ -1,5 +1,6 @@
 -- Where the leaves follow one another, as those of a segment do, a time is answered with the one leaf that covers it, refused with 23
 -- before the first and with 24 past the last.
+use Rattle.std.specs.Prelude.{Ok, Err}
 use Prim.Native.Nat.{ℕ, suc, ◌+◌, ◌*◌, ◌≤◌, ◌<◌}
 use mathlib.Core.Path.{◌≡◌, refl, sym, ap, ◌∙◌}
 use mathlib.Core.List.{List, [], ◌∷◌, ◌++◌}
@@ -27,8 +28,7 @@ use Rattle.moment.proofs.Whole.{reaches_whole, before_whole}
 use Rattle.state.specs.declared.Top.{Top}
 use Rattle.state.specs.declared.State.TheVariants as state
 use Rattle.state.specs.Ranges.{in_range}
-use Rattle.covering.specs.declared.LookupAnswer.TheVariants as answer
-use Rattle.covering.specs.Lookup.{look_in, look_at, lookup_state, lookup_of}
+use Rattle.covering.specs.Lookup.{look_in, look_at, lookup_state, lookup_of, the_leaf}
 use Rattle.covering.specs.Records.{record_of, records_of, leaf_covers, outside_number, NoLeafCovers}
 use Rattle.covering.proofs.Edges.{covers_whole}
 use Rattle.covering.proofs.Listed.{found_exact, refused_exact}
@@ -60,7 +60,7 @@ module _ (ls : List Leaf) (from to : ℕ) (follow : Follow from ls to) (t : Mome
       one.only i l at (covers_its_whole l here) ∙ sym (one.only j m at' (covers_its_whole m here'))
 
   -- a leaf that covers a time is the answer to it
-  pub follow_found : (rest : List ℕ) (i : ℕ) (l : Leaf) → At ls i l → leaf_covers t l ≡ true → look_in (length ls) (records_of ls ++ rest) t ≡ answer.Found (suc i) (record_of l)
+  pub follow_found : (rest : List ℕ) (i : ℕ) (l : Leaf) → At ls i l → leaf_covers t l ≡ true → look_in (length ls) (records_of ls ++ rest) t ≡ Ok (the_leaf (suc i) (record_of l))
   follow_found rest i l there here = found_exact ls rest t i l there here (λ j m low at. no_other j m low at (leaf_covers t m) refl)
     where
       no_other : (j : ℕ) (m : Leaf) → j < i → At ls j m → (c : Bool) → leaf_covers t m ≡ c → c ≡ false
@@ -75,7 +75,7 @@ module _ (ls : List Leaf) (from to : ℕ) (follow : Follow from ls to) (t : Mome
 
   -- and answered with that leaf
   pub follow_one : (rest : List ℕ) → reaches t from ≡ true → before t to ≡ true →
-      (one : One (λ l. leaf_covers t l ≡ true) ls) × (look_in (length ls) (records_of ls ++ rest) t ≡ answer.Found (suc one.place) (record_of one.item))
+      (one : One (λ l. leaf_covers t l ≡ true) ls) × (look_in (length ls) (records_of ls ++ rest) t ≡ Ok (the_leaf (suc one.place) (record_of one.item)))
   follow_one rest low high =
       let one = follow_moment low high in
       (one, follow_found rest one.place one.item one.there one.has)
@@ -108,33 +108,33 @@ past_number (l ∷ ls) from to t some' follow past =
 
 -- A time before the first leaf is refused with 23.
 pub follow_before : (ls : List Leaf) (from to : ℕ) → Follow from ls to → 0 < length ls → (rest : List ℕ) (t : Moment) → 0 < t.under → before t from ≡ true →
-    look_in (length ls) (records_of ls ++ rest) t ≡ answer.Refused (refusal 23 0)
+    look_in (length ls) (records_of ls ++ rest) t ≡ Err (refusal 23 0)
 follow_before ls from to follow any rest t some' early =
     let low = whole_below t some' from early in
-    refused_exact ls rest t (outside_uncovered ls from to follow t some' (inl low)) ∙ ap (λ (n : ℕ). answer.Refused (refusal n 0)) (before_number ls from to t some' follow any low)
+    refused_exact ls rest t (outside_uncovered ls from to follow t some' (inl low)) ∙ ap (λ (n : ℕ). Err (refusal n 0)) (before_number ls from to t some' follow any low)
 
 -- A time at or past the end of the last leaf is refused with 24.
 pub follow_past : (ls : List Leaf) (from to : ℕ) → Follow from ls to → (rest : List ℕ) (t : Moment) → 0 < t.under → reaches t to ≡ true →
-    look_in (length ls) (records_of ls ++ rest) t ≡ answer.Refused (refusal 24 0)
+    look_in (length ls) (records_of ls ++ rest) t ≡ Err (refusal 24 0)
 follow_past ls from to follow rest t some' past =
     let high = whole_from t some' to past in
-    refused_exact ls rest t (outside_uncovered ls from to follow t some' (inr high)) ∙ ap (λ (n : ℕ). answer.Refused (refusal n 0)) (past_number ls from to t some' follow high)
+    refused_exact ls rest t (outside_uncovered ls from to follow t some' (inr high)) ∙ ap (λ (n : ℕ). Err (refusal n 0)) (past_number ls from to t some' follow high)
 
 -- The leaves of an accepted segment, in a table that starts with their records, and any time.
 module _ (brand : ℕ) (xs : List ℕ) (ls : List Leaf) (top : Opened) (accepted : segment brand xs ≡ some ls) (opened : top_index brand xs ≡ some top) (rest : List ℕ)
     (t : Moment) (some' : 0 < t.under) where
   -- within the span of the top index: the one leaf that covers the time
   pub segment_found : reaches t top.index.time ≡ true → before t (top.index.time + durations top.index.entries) ≡ true →
-      (one : One (λ l. leaf_covers t l ≡ true) ls) × (look_in (length ls) (records_of ls ++ rest) t ≡ answer.Found (suc one.place) (record_of one.item))
+      (one : One (λ l. leaf_covers t l ≡ true) ls) × (look_in (length ls) (records_of ls ++ rest) t ≡ Ok (the_leaf (suc one.place) (record_of one.item)))
   segment_found = follow_one ls top.index.time (top.index.time + durations top.index.entries) (leaves_span brand xs ls top accepted opened) t some' rest
 
   -- before it: 23
-  pub segment_before : before t top.index.time ≡ true → look_in (length ls) (records_of ls ++ rest) t ≡ answer.Refused (refusal 23 0)
+  pub segment_before : before t top.index.time ≡ true → look_in (length ls) (records_of ls ++ rest) t ≡ Err (refusal 23 0)
   segment_before =
       follow_before ls top.index.time (top.index.time + durations top.index.entries) (leaves_span brand xs ls top accepted opened) (leaves_some brand xs ls accepted) rest t some'
 
   -- past it: 24
-  pub segment_past : reaches t (top.index.time + durations top.index.entries) ≡ true → look_in (length ls) (records_of ls ++ rest) t ≡ answer.Refused (refusal 24 0)
+  pub segment_past : reaches t (top.index.time + durations top.index.entries) ≡ true → look_in (length ls) (records_of ls ++ rest) t ≡ Err (refusal 24 0)
   segment_past = follow_past ls top.index.time (top.index.time + durations top.index.entries) (leaves_span brand xs ls top accepted opened) rest t some'
 
 pub records_length : (ls : List Leaf) → length (records_of ls) ≡ record_numbers * length ls

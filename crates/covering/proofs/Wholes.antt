@@ -1,4 +1,5 @@
 -- Only the whole part of a time matters to a lookup, since a record starts and ends at a whole tick: over any table at all.
+use Rattle.std.specs.Prelude.{Err}
 use Prim.Native.Nat.{ℕ, zero, suc, ◌+◌, ◌<◌}
 use mathlib.Core.Path.{◌≡◌, refl, sym, ap, ◌∙◌}
 use mathlib.Core.List.{List}
@@ -11,7 +12,6 @@ use Rattle.moment.specs.Moments.{Moment, tick, reaches, before}
 use Rattle.moment.specs.Worth.{whole}
 use Rattle.moment.proofs.Whole.{reaches_whole, before_whole, reaches_tick, before_tick}
 use Rattle.machine.specs.Faults.{refusal}
-use Rattle.covering.specs.declared.LookupAnswer.TheVariants as answer
 use Rattle.covering.specs.Lookup.{record_covers, covering_from, outside, found, look_in}
 
 module _ (t : Moment) (some' : 0 < t.under) where
@@ -34,7 +34,7 @@ module _ (t : Moment) (some' : 0 < t.under) where
   outside_whole : (leaves : ℕ) (table : List ℕ) → outside leaves table t ≡ outside leaves table (tick (whole t))
   unfolding outside
   outside_whole zero table = refl
-  outside_whole (suc k) table = ap (λ (c : Bool). pick c (answer.Refused (refusal 23 0)) (answer.Refused (refusal 24 0))) (before_alike (record_at table 0).start)
+  outside_whole (suc k) table = ap (λ (c : Bool). pick c (Err (refusal 23 0)) (Err (refusal 24 0))) (before_alike (record_at table 0).start)
 
   found_whole : (leaves : ℕ) (table : List ℕ) (o : Option ℕ) → found leaves table t o ≡ found leaves table (tick (whole t)) o
   unfolding found

@@ -1,12 +1,11 @@
-// What a lookup answers.
+// What a lookup finds.
 #![tactic(auto)]
 
-use machine::Refusal;
 use table::Record;
 
-// The leaf's number, from 1, and its record; or a refusal.
+// The leaf that covers the time: its number, from 1, and its record.
 #[derive(Clone, Copy)]
-pub enum LookupAnswer {
-    Found(u64, Record),
-    Refused(Refusal),
+pub struct Leaf {
+    pub number: u64,
+    pub record: Record,
 }

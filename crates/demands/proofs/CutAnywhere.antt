@@ -1,5 +1,6 @@
 -- Demand 3: any cutting, fed in order and finished, gives what the definition gives for the uncut segment, by the law of the fold; and what
 -- is accepted belongs: each byte to one part, each tick to one leaf.
+use Rattle.std.specs.Prelude.{ℕ, Result, Ok, Err}
 use Prim.Native.Nat.{ℕ, ◌≤◌, ◌<◌}
 use mathlib.Core.Path.{◌≡◌, refl, ap, sym, subst, ◌∙◌}
 use mathlib.Core.List.{List, [], ◌∷◌}
@@ -14,11 +15,9 @@ use Rattle.state.specs.Flow.{work_bytes}
 use Rattle.segment.specs.Tree.{Leaf, segment}
 use Rattle.segment.specs.Parts.{Belongs}
 use Rattle.segment.proofs.Belongs.{belongs}
+use Rattle.machine.specs.declared.Refusal.{Refusal}
 use Rattle.machine.specs.Faults.{refusal}
 use Rattle.state.specs.declared.State.TheVariants as state
-use Rattle.state.specs.declared.FeedAnswer.TheVariants as feeds
-use Rattle.state.specs.declared.FinishAnswer.{FinishAnswer}
-use Rattle.state.specs.declared.FinishAnswer.TheVariants as finishes
 use Rattle.table.specs.Table.{room}
 use Rattle.state.specs.Step.{World, reading, ended, refused, step_all, stage0, flow0}
 use Rattle.state.specs.Ranges.{in_range}
@@ -60,19 +59,19 @@ short_parts (part ∷ parts) h short = rw (feed_short h.state part h.work h.tabl
 
 module _ (brand : ℕ) (parts : List (List ℕ)) (work table : List ℕ) where
   -- With a work area that is too short every feed gives 1 and changes nothing, and finish gives 20 with place 0.
-  pub short_refuses : length work < work_bytes → (part : List ℕ) → feed_held (feed_all (held (start_of brand) work table) parts) part ≡ out (feeds.Refused (refusal 1 0)) (start_of brand) work table
+  pub short_refuses : length work < work_bytes → (part : List ℕ) → feed_held (feed_all (held (start_of brand) work table) parts) part ≡ out (Err (refusal 1 0)) (start_of brand) work table
   short_refuses short part = rw (short_parts parts (held (start_of brand) work table) short) (feed_short (start_of brand) part work table short)
 
-  pub short_finishes : length work < work_bytes → in_parts brand parts work table ≡ out (finishes.Refused (refusal 20 0)) (state.Refused 0 0 (refusal 20 0)) work table
+  pub short_finishes : length work < work_bytes → in_parts brand parts work table ≡ out (Err (refusal 20 0)) (state.Refused 0 0 (refusal 20 0)) work table
   unfolding finish_state
   short_finishes short = rw (short_parts parts (held (start_of brand) work table) short, finish_inside (start_of brand) (start_inside brand))
 
   -- so that a reading that is accepted had one that is long enough
-  pub accepted_long : (k : ℕ) → (in_parts brand parts work table).answer ≡ finishes.Listed k → work_bytes ≤ length work
+  pub accepted_long : (k : ℕ) → (in_parts brand parts work table).answer ≡ Ok k → work_bytes ≤ length work
   accepted_long k e = at (lt_or_ge (length work) work_bytes)
     where
       at : (length work < work_bytes) ⊎ (work_bytes ≤ length work) → work_bytes ≤ length work
-      at (inl short) = let z : ◌≡◌ {A = ℕ} 0 1 = cc (ap (λ (o : Out FinishAnswer). o.answer) (short_finishes short)) in absurd (omega arith)
+      at (inl short) = let z : ◌≡◌ {A = ℕ} 0 1 = cc (ap (λ (o : Out (Result ℕ Refusal)). o.answer) (short_finishes short)) in absurd (omega arith)
       at (inr long) = long
 
 module _ (brand : ℕ) (parts : List (List ℕ)) (work table : List ℕ) (all : AllBytes (joined parts)) where
@@ -90,10 +89,10 @@ module _ (brand : ℕ) (parts : List (List ℕ)) (work table : List ℕ) (all : 
 
   -- A reading that is accepted, however it was cut: the bytes are a segment of the tree, it is accepted with its leaves, and each byte of its
   -- material belongs to one leaf or one inner index box, each tick to one leaf.
-  pub accepted_belongs : (k : ℕ) → (in_parts brand parts work table).answer ≡ finishes.Listed k →
+  pub accepted_belongs : (k : ℕ) → (in_parts brand parts work table).answer ≡ Ok k →
       (ls : List Leaf) × (segment brand bytes ≡ some ls) × (length ls ≤ room table) × Accepts brand bytes table ls (in_parts brand parts work table) × Belongs brand bytes ls
   accepted_belongs k e =
       let long = accepted_long brand parts work table k e in
       let same = cut_anywhere long in
-      let (ls, is, fits, a) = accepted brand bytes work table all long k (sym (ap (λ (o : Out FinishAnswer). o.answer) same) ∙ e) in
+      let (ls, is, fits, a) = accepted brand bytes work table all long k (sym (ap (λ (o : Out (Result ℕ Refusal)). o.answer) same) ∙ e) in
       (ls, is, fits, subst (Accepts brand bytes table ls) (sym same) a, belongs brand bytes ls is)

@@ -1,8 +1,9 @@
 -- Law T: the descent comes to what the tree says: it accepts exactly the tree's segments whose leaves the table has room for, and lists
 -- exactly their leaves; where the room ends before the leaves do, it refuses the first leaf beyond with 15.
+use Rattle.std.specs.Prelude.{Err}
 use Prim.Native.Nat.{ℕ, ◌+◌, ◌-◌, ◌*◌, ◌≤◌, ◌<◌}
 use mathlib.Core.Path.{◌≡◌, refl, ap, sym, subst, ◌∙◌}
-use mathlib.Core.Logic.{◌≢◌, ◌⊎◌, ⊎_elim}
+use mathlib.Core.Logic.{◌≢◌, ⊎_elim}
 use mathlib.Core.List.{List, [], ◌∷◌, ◌++◌, append-nil}
 use mathlib.Core.Option.{Option, some, none}
 use mathlib.Core.Bool.{Bool, true, false, not, ◌||◌}
@@ -29,7 +30,6 @@ use Rattle.state.specs.declared.Top.{Top}
 use Rattle.state.specs.declared.Level.{Level}
 use Rattle.state.specs.declared.Levels.TheVariants as levels
 use Rattle.state.specs.declared.IndexRead.{IndexRead}
-use Rattle.state.specs.declared.FinishAnswer.TheVariants as finishes
 use Rattle.state.specs.Flow.{Flow, Left, left, with_now, work_bytes, level_bytes}
 use Rattle.basics.specs.Put.{put_all}
 use Rattle.state.specs.Sidx.{topmost, part_of}
@@ -338,7 +338,7 @@ module _ (brand : ℕ) (xs work table : List ℕ) (small : length xs ≤ limit) 
       (judge_told (opening_d brand f0 0 xs) after_top (top_index brand xs) _ say_top (opening_tree brand f0 (λ x g m cs. some (after_top x g m cs)) xs small) top_meets)
 
 -- a byte after the material is refused with 21, or with 3
-past_end : (n : ℕ) (table : List ℕ) (t : Bool) → verdict_by (finishes.Refused (lowest (past_material n) (shows t 3 limit))) table ≡ wrong
+past_end : (n : ℕ) (table : List ℕ) (t : Bool) → verdict_by (Err (lowest (past_material n) (shows t 3 limit))) table ≡ wrong
 unfolding verdict_by shows lowest pick
 past_end n table true = refl
 past_end n table false = refl

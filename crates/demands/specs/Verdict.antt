@@ -1,12 +1,11 @@
 -- What a reading with a leaf table comes to, and what the tree says it should come to: fine with what it gives, full at the first leaf
 -- beyond the room, or wrong.
-use Rattle.std.specs.Prelude.{ℕ, suc, ◌+◌, ◌≡◌, List, [], ◌∷◌, eqb}
+use Rattle.std.specs.Prelude.{ℕ, suc, ◌+◌, ◌≡◌, List, [], ◌∷◌, eqb, Result, Ok, Err}
 use Rattle.std.proofs.Math.Option.{Option, some, none}
 use Rattle.basics.specs.Choose.{pick}
 use Rattle.segment.specs.Tree.{Leaf, Part, leaf_part, index_part}
+use Rattle.machine.specs.declared.Refusal.{Refusal}
 use Rattle.machine.specs.Run.{Res, okay, fail, cut}
-use Rattle.state.specs.declared.FinishAnswer.{FinishAnswer}
-use Rattle.state.specs.declared.FinishAnswer.TheVariants as finishes
 use Rattle.state.specs.Calls.{Out}
 use Rattle.state.specs.declared.Seen.{Seen}
 use Rattle.table.specs.Table.{put_record}
@@ -66,9 +65,9 @@ seat [] n table = fine (record { leaves = n; table = table })
 seat (l ∷ ls) n table = pick (no_room n table) (full l.position) (seat ls (suc n) (put_record table n (record_of l)))
 
 -- what the whole reading comes to: its list, or 15 at a place, or another refusal
-unfoldable pub verdict_by : FinishAnswer → List ℕ → Verdict Listing
-verdict_by (finishes.Listed n) table = fine (record { leaves = n; table = table })
-verdict_by (finishes.Refused x) table = pick (eqb x.number 15) (full x.place) wrong
+unfoldable pub verdict_by : Result ℕ Refusal → List ℕ → Verdict Listing
+verdict_by (Ok n) table = fine (record { leaves = n; table = table })
+verdict_by (Err x) table = pick (eqb x.number 15) (full x.place) wrong
 
-abbrev pub verdict_of : Out FinishAnswer → Verdict Listing
+abbrev pub verdict_of : Out (Result ℕ Refusal) → Verdict Listing
 verdict_of o = verdict_by o.answer o.table

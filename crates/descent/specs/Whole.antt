@@ -1,7 +1,8 @@
 -- The segment by structure: the boxes up to the top index, the gap, and the entries of an index, level by level.
-use Rattle.std.specs.Prelude.{ℕ, zero, suc, ◌+◌, ◌-◌, ◌*◌, List, [], ◌∷◌, Bool, true, false, eqb, ltb, length, take, drop}
+use Rattle.std.specs.Prelude.{ℕ, zero, suc, ◌+◌, ◌-◌, ◌*◌, List, [], ◌∷◌, Bool, true, false, eqb, ltb, length, take, drop, Result, Ok, Err}
 use Rattle.basics.specs.Choose.{pick}
 use Rattle.segment.specs.Constants.{limit, entry_bytes}
+use Rattle.machine.specs.declared.Refusal.{Refusal}
 use Rattle.machine.specs.Faults.{refusal, lowest, unless}
 use Rattle.machine.specs.Run.{Res, okay, fail, cut, after}
 use Rattle.machine.specs.Heads.{box_end}
@@ -12,8 +13,6 @@ use Rattle.state.specs.declared.Level.{Level}
 use Rattle.state.specs.declared.Slot.{Slot}
 use Rattle.state.specs.declared.IndexRead.{IndexRead}
 use Rattle.state.specs.declared.State.TheVariants as state
-use Rattle.state.specs.declared.FinishAnswer.{FinishAnswer}
-use Rattle.state.specs.declared.FinishAnswer.TheVariants as finishes
 use Rattle.state.specs.Flow.{Flow, Left, left, with_now, listed, work_bytes, level_bytes}
 use Rattle.state.specs.Opening.{span_of}
 use Rattle.state.specs.Sidx.{under}
@@ -79,20 +78,20 @@ unfoldable pub segment_d : ℕ → Flow → ℕ → List ℕ → Res Top Flow Le
 segment_d brand f n bs = after (opening_d brand f n bs) (λ x g m cs. material_d x g m cs)
 
 -- what the whole gives: accepted at the material's end, 21 for a byte more, 20 where the bytes end before it
-unfoldable pub outcome : Res Top Flow Left → Out FinishAnswer
-outcome (okay top f n []) = out (finishes.Listed f.leaves) (state.Accepted n f.leaves top) f.work f.table
+unfoldable pub outcome : Res Top Flow Left → Out (Result ℕ Refusal)
+outcome (okay top f n []) = out (Ok f.leaves) (state.Accepted n f.leaves top) f.work f.table
 outcome (okay top f n (b ∷ bs)) =
     let x = lowest (past_material n) (past_limit n) in
-    out (finishes.Refused x) (state.Refused (suc n) f.leaves x) f.work f.table
-outcome (fail x kept n) = out (finishes.Refused x) (state.Refused n kept.leaves x) kept.work kept.table
-outcome (cut kept n) = out (finishes.Refused (refusal 20 n)) (state.Refused n kept.leaves (refusal 20 n)) kept.work kept.table
+    out (Err x) (state.Refused (suc n) f.leaves x) f.work f.table
+outcome (fail x kept n) = out (Err x) (state.Refused n kept.leaves x) kept.work kept.table
+outcome (cut kept n) = out (Err (refusal 20 n)) (state.Refused n kept.leaves (refusal 20 n)) kept.work kept.table
 
 -- row 3 is met at the byte after the limit, whatever stands there
 abbrev pub read_d : ℕ → List ℕ → List ℕ → List ℕ → Res Top Flow Left
 read_d brand bytes work table = beyond (refusal 3 limit) (segment_d brand (flow0 work table) 0 (take limit bytes)) (drop limit bytes)
 
 -- The descent: the whole list read by structure; number 1 comes first.
-unfoldable pub whole_d : ℕ → List ℕ → List ℕ → List ℕ → Out FinishAnswer
+unfoldable pub whole_d : ℕ → List ℕ → List ℕ → List ℕ → Out (Result ℕ Refusal)
 whole_d brand bytes work table =
-    pick (ltb (length work) work_bytes) (out (finishes.Refused (refusal 1 0)) (start_of brand) work table)
+    pick (ltb (length work) work_bytes) (out (Err (refusal 1 0)) (start_of brand) work table)
     (outcome (read_d brand bytes work table))

@@ -17,10 +17,7 @@ fn not_a_number(opposite: bool) -> f64
     ensures { result ≡ nan }
 {
     let none: f64 = 0.0 / 0.0;
-    if opposite {
-        return -none;
-    }
-    none
+    if opposite { -none } else { none }
 }
 
 // Of a not-a-number's bits none are kept: no answer hangs on them.

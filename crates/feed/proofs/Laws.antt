@@ -1,4 +1,5 @@
 -- A piece fed by the bytes that pass at once, or by those of a number and one byte; and the checks before.
+use Rattle.std.specs.Prelude.{ℕ, Result, Err}
 use Prim.Native.Nat.{ℕ, suc, ◌+◌, ◌-◌, ◌≤◌, ◌<◌}
 use mathlib.Core.Path.{◌≡◌, refl, ap, sym, subst, ◌∙◌}
 use mathlib.Core.List.{List, [], ◌∷◌}
@@ -8,11 +9,10 @@ use native.Mathlib.Numerals.{add-one}
 use lib.ListN.{length, get_or, drop, drop_of_length-le}
 use lib.Seq.{drop-cons}
 use Rattle.state.specs.Flow.{work_bytes}
+use Rattle.machine.specs.declared.Refusal.{Refusal}
 use Rattle.machine.specs.Faults.{refusal}
 use Rattle.state.specs.declared.State.{State}
 use Rattle.state.specs.declared.State.TheVariants as state
-use Rattle.state.specs.declared.FeedAnswer.{FeedAnswer}
-use Rattle.state.specs.declared.FeedAnswer.TheVariants as feeds
 use Rattle.state.specs.Step.{step_all}
 use Rattle.state.specs.Calls.{Out, out, flow_of, state_of, work_of, table_of, answer_of, fed, feed_state, feed_of}
 use Rattle.state.specs.Ranges.{bounds, in_range, InRange}
@@ -34,7 +34,7 @@ one_taken piece s i work table s' work' table' h r e =
       within = omega arith;
       inside = r;
       same =
-          rw (add-one i, drop-cons piece i 0 h) (ap (λ (o : Out FeedAnswer). state_next o (drop (suc i) piece)) e ∙ sym (state_join s (get_or piece i 0 ∷ []) (drop (suc i) piece) work table));
+          rw (add-one i, drop-cons piece i 0 h) (ap (λ (o : Out (Result ℕ Refusal)). state_next o (drop (suc i) piece)) e ∙ sym (state_join s (get_or piece i 0 ∷ []) (drop (suc i) piece) work table));
     }
 
 -- The bytes of a number that are taken together, which leave `on` at the place `at` of the piece.
@@ -118,12 +118,12 @@ passed_most piece s i k e = rw e (passes_there s (length piece - i))
 
 -- "Feed checks 1, 2": what it gives in each case
 module _ (s : State) (piece work table : List ℕ) where
-  pub feeds_short : (a : FeedAnswer) (s' : State) → length work < work_bytes → (a ≡ feeds.Refused (refusal 1 0)) × (s' ≡ s) → out a s' work table ≡ feed_of s piece work table
+  pub feeds_short : (a : Result ℕ Refusal) (s' : State) → length work < work_bytes → (a ≡ Err (refusal 1 0)) × (s' ≡ s) → out a s' work table ≡ feed_of s piece work table
   feeds_short a s' h e = rw (e.0, e.1) (sym (feed_short s piece work table h))
 
-  pub feeds_outside : (a : FeedAnswer) (s' : State) → work_bytes ≤ length work → in_range s ≡ false → (a ≡ feeds.Refused (refusal 2 0)) × (s' ≡ s) → out a s' work table ≡ feed_of s piece work table
+  pub feeds_outside : (a : Result ℕ Refusal) (s' : State) → work_bytes ≤ length work → in_range s ≡ false → (a ≡ Err (refusal 2 0)) × (s' ≡ s) → out a s' work table ≡ feed_of s piece work table
   feeds_outside a s' h o e = rw (e.0, e.1) (sym (feed_outside s piece work table h o))
 
-  pub feeds_inside : (a : FeedAnswer) (next : State) (work' table' : List ℕ) → work_bytes ≤ length work → in_range s ≡ true → a ≡ answered next →
+  pub feeds_inside : (a : Result ℕ Refusal) (next : State) (work' table' : List ℕ) → work_bytes ≤ length work → in_range s ≡ true → a ≡ answered next →
       left_with next work' table' ≡ feed_state s piece work table → out a next work' table' ≡ feed_of s piece work table
   feeds_inside a next work' table' h o e same = rw e same ∙ sym (feed_inside s piece work table h o)

@@ -1,6 +1,6 @@
 -- What an answer says: where a field ends and how long it is, and where a header stands, how long it is and where its box ends.
 use Prim.Native.Nat.{ℕ, ◌+◌, ◌^◌, ◌≤◌, ◌<◌}
-use mathlib.Core.Path.{◌≡◌, refl, sym, subst}
+use mathlib.Core.Path.{◌≡◌, refl, ap, sym, subst, ◌∙◌}
 use mathlib.Core.List.{List, [], ◌∷◌}
 use mathlib.Core.Bool.{Bool, true, false}
 use native.Mathlib.Omega.{arith}
@@ -9,14 +9,15 @@ use lib.ListN.{length}
 use borrow.Author.Tests.{ltb-true, ltb-false}
 use types.Run.{OneOf}
 use mathlib.Core.Logic.{inl, inr}
+use Rattle.fields.specs.declared.Halt.{Halt}
+use Rattle.std.specs.Prelude.{ok_or, Some, None, Ok, Err, Result}
+use Rattle.std.specs.Result.{IsErrAnd}
+use Rattle.std.proofs.lemmas.Result.{err_from_is_err_and}
 use Rattle.basics.specs.Choose.{pick}
 use Rattle.basics.proofs.Picks.{pick_holds}
 use Rattle.machine.specs.declared.Header.{Header}
-use Rattle.fields.specs.Answers.{number_at, field_at, Small, checked_at, large_at, head_at}
-use Rattle.fields.specs.declared.FieldRead.{FieldRead}
-use Rattle.fields.specs.declared.FieldRead.TheVariants as field
-use Rattle.fields.specs.declared.HeadRead.{HeadRead}
-use Rattle.fields.specs.declared.HeadRead.TheVariants as head
+use Rattle.fields.specs.Answers.{number_at, field_at, Small, checked_at, large_at, head_at, FieldRead, HeadRead}
+use Rattle.fields.specs.declared.Halt.TheVariants as halt
 use Rattle.fields.specs.declared.Stop.{Stop}
 
 -- a field that was read
@@ -25,26 +26,46 @@ pub record FieldIn (s : List ℕ) (at width v next : ℕ) : Type 0 where
   pub after : next ≡ at + width
   pub inside : next ≤ length s
 
-pub field_in : (s : List ℕ) (at width v next : ℕ) → field_at s at width ≡ field.Read v next → FieldIn s at width v next
+pub field_in : (s : List ℕ) (at width v next : ℕ) → field_at s at width ≡ Some (v, next) → FieldIn s at width v next
 unfolding field_at pick
 field_in s at width v next e = go (ltb (length s) (at + width)) refl e
   where
-    go : (t : Bool) → ltb (length s) (at + width) ≡ t → pick t field.Ended (field.Read (number_at width s at) (at + width)) ≡ field.Read v next → FieldIn s at width v next
+    go : (t : Bool) → ltb (length s) (at + width) ≡ t → pick {A = FieldRead} t None (Some (number_at width s at, at + width)) ≡ Some (v, next) → FieldIn s at width v next
     go true t q = let z : ◌≡◌ {A = ℕ} 0 1 = cc in absurd (omega arith)
     go false t q =
-        let there : at + width ≡ next = cc in
-        record { value = cc; after = sym there; inside = omega (arith, ltb-false (length s) (at + width) t) }
+        let read : ◌≡◌ {A = ℕ × ℕ} (v, next) (number_at width s at, at + width) = cc in
+        let after : next ≡ at + width = ap (λ (p : ℕ × ℕ). p.1) read in
+        record { value = ap (λ (p : ℕ × ℕ). p.0) read; after = after; inside = omega (arith, ltb-false (length s) (at + width) t) }
 
-pub field_out : (s : List ℕ) (at width : ℕ) → field_at s at width ≡ field.Ended → length s < at + width
+pub field_out : (s : List ℕ) (at width : ℕ) → field_at s at width ≡ None → length s < at + width
 unfolding field_at pick
 field_out s at width e = go (ltb (length s) (at + width)) refl e
   where
-    go : (t : Bool) → ltb (length s) (at + width) ≡ t → pick t field.Ended (field.Read (number_at width s at) (at + width)) ≡ field.Ended → length s < at + width
+    go : (t : Bool) → ltb (length s) (at + width) ≡ t → pick {A = FieldRead} t None (Some (number_at width s at, at + width)) ≡ None → length s < at + width
     go true t q = ltb-true _ _ t
     go false t q = let z : ◌≡◌ {A = ℕ} 0 1 = cc in absurd (omega arith)
 
-pub field_small : (width : ℕ) {r : FieldRead} {v next : ℕ} → r ≡ field.Read v next → Small width r → v < 256 ^ width
+pub field_small : (width : ℕ) {r : FieldRead} {v next : ℕ} → r ≡ Some (v, next) → Small width r → v < 256 ^ width
 field_small width e h = subst (λ (q : FieldRead). Small width q) e h
+
+-- what `?` hands on
+pub handed : {T : Type 0} {r : Result T Halt} {x : Halt} → IsErrAnd r (λ y. y ≡ x) → r ≡ Err x
+handed {T} {r} {x} h = let p = err_from_is_err_and r h in p.1 ∙ ap (λ (y : Halt). Err y) p.2
+
+-- a field without which nothing goes on: it was read, or the bytes end
+pub needed : {r : FieldRead} {got : Result (ℕ × ℕ) Halt} {v next : ℕ} → got ≡ ok_or r halt.Ended → got ≡ Ok (v, next) → r ≡ Some (v, next)
+needed {r} {got} {v} {next} is e = by r (sym is ∙ e)
+  where
+    by : (q : FieldRead) → ok_or q halt.Ended ≡ Ok (v, next) → q ≡ Some (v, next)
+    by None e = let z : ◌≡◌ {A = ℕ} 0 1 = cc in absurd (omega arith)
+    by (Some p) e = let q : p ≡ (v, next) = cc in ap (λ (p : ℕ × ℕ). Some p) q
+
+pub wanting : {r : FieldRead} {got : Result (ℕ × ℕ) Halt} {x : Halt} → got ≡ ok_or r halt.Ended → got ≡ Err x → (r ≡ None) × (x ≡ halt.Ended)
+wanting {r} {got} {x} is e = by r (sym is ∙ e)
+  where
+    by : (q : FieldRead) → ok_or q halt.Ended ≡ Err x → (q ≡ None) × (x ≡ halt.Ended)
+    by None e = let q : halt.Ended ≡ x = cc in (refl, sym q)
+    by (Some p) e = let z : ◌≡◌ {A = ℕ} 0 1 = cc in absurd (omega arith)
 
 -- a header that was read: its box ends in its container, and is no shorter than its header, whose bytes are there
 pub record HeadIn (s : List ℕ) (at end : ℕ) (h : Header) : Type 0 where
@@ -56,21 +77,21 @@ pub record HeadIn (s : List ℕ) (at end : ℕ) (h : Header) : Type 0 where
   pub here : at + h.head ≤ length s
 
 module _ {A : Type 0} where
-  no_read : {x : Stop} {h : Header} → head.Bad x ≡ head.Read h → A
+  no_read : {x : Stop} {h : Header} → Err (halt.Bad x) ≡ Ok h → A
   no_read e = let z : ◌≡◌ {A = ℕ} 0 1 = cc in absurd (omega arith)
 
-  not_read : {h : Header} → head.Ended ≡ head.Read h → A
+  not_read : {h : Header} → (Err halt.Ended) ≡ Ok h → A
   not_read e = let z : ◌≡◌ {A = ℕ} 0 1 = cc in absurd (omega arith)
 
 module _ (s : List ℕ) (at end : ℕ) (h : Header) where
-  checked_in : (kind size long : ℕ) → 8 ≤ long → long ≤ 16 → at + long ≤ length s → checked_at at end kind size long ≡ head.Read h → HeadIn s at end h
+  checked_in : (kind size long : ℕ) → 8 ≤ long → long ≤ 16 → at + long ≤ length s → checked_at at end kind size long ≡ Ok h → HeadIn s at end h
   unfolding checked_at pick
   checked_in kind size long a b c e = go (ltb size long) refl (ltb end (at + size)) refl e
     where
       go : (t : Bool) → ltb size long ≡ t → (u : Bool) → ltb end (at + size) ≡ u →
-          pick t (head.Bad (record { number = 4; place = at; count = at + long; leaves = 0 }))
-          (pick u (head.Bad (record { number = 5; place = at; count = at + long; leaves = 0 })) (head.Read (record { pos = at; kind = kind; size = size; head = long })))
-          ≡ head.Read h → HeadIn s at end h
+          pick t (Err (halt.Bad (record { number = 4; place = at; count = at + long; leaves = 0 })))
+          (pick u (Err (halt.Bad (record { number = 5; place = at; count = at + long; leaves = 0 }))) (Ok (record { pos = at; kind = kind; size = size; head = long })))
+          ≡ Ok h → HeadIn s at end h
       go true t u v q = no_read q
       go false t true v q = no_read q
       go false t false v q =
@@ -86,26 +107,26 @@ module _ (s : List ℕ) (at end : ℕ) (h : Header) where
             here = omega arith;
           }
 
-  large_in : (kind : ℕ) → large_at s at end kind ≡ head.Read h → HeadIn s at end h
+  large_in : (kind : ℕ) → large_at s at end kind ≡ Ok h → HeadIn s at end h
   unfolding large_at pick
   large_in kind e = go (ltb end (at + 16)) (ltb (length s) (at + 16)) refl e
     where
       go : (t u : Bool) → ltb (length s) (at + 16) ≡ u →
-          pick t (head.Bad (record { number = 5; place = at; count = at + 8; leaves = 0 })) (pick u head.Ended (checked_at at end kind (number_at 8 s (at + 8)) 16)) ≡ head.Read h →
+          pick t (Err (halt.Bad (record { number = 5; place = at; count = at + 8; leaves = 0 }))) (pick u (Err halt.Ended) (checked_at at end kind (number_at 8 s (at + 8)) 16)) ≡ Ok h →
           HeadIn s at end h
       go true u v q = no_read q
       go false true v q = not_read q
       go false false v q = checked_in kind _ 16 (omega arith) (omega arith) (omega (arith, ltb-false (length s) (at + 16) v)) q
 
-  pub head_in : head_at s at end ≡ head.Read h → HeadIn s at end h
+  pub head_in : head_at s at end ≡ Ok h → HeadIn s at end h
   unfolding head_at pick
   head_in e = go (leb (length s) at) (ltb end (at + 8)) (ltb (length s) (at + 8)) (eqb (number_at 4 s at) 1) refl e
     where
       go : (t u v w : Bool) → ltb (length s) (at + 8) ≡ v →
-          pick t head.Ended
-          (pick u (head.Bad (record { number = 5; place = at; count = at + 1; leaves = 0 }))
-          (pick v head.Ended (pick w (large_at s at end (number_at 4 s (at + 4))) (checked_at at end (number_at 4 s (at + 4)) (number_at 4 s at) 8))))
-          ≡ head.Read h → HeadIn s at end h
+          pick t (Err halt.Ended)
+          (pick u (Err (halt.Bad (record { number = 5; place = at; count = at + 1; leaves = 0 })))
+          (pick v (Err halt.Ended) (pick w (large_at s at end (number_at 4 s (at + 4))) (checked_at at end (number_at 4 s (at + 4)) (number_at 4 s at) 8))))
+          ≡ Ok h → HeadIn s at end h
       go true u v w x q = not_read q
       go false true v w x q = no_read q
       go false false true w x q = not_read q
@@ -114,9 +135,9 @@ module _ (s : List ℕ) (at end : ℕ) (h : Header) where
 
 -- a fault that a header shows lies within its container
 abbrev pub FaultWithin : ℕ → HeadRead → Type 0
-FaultWithin end (head.Read h) = Unit {0}
-FaultWithin end (head.Bad x) = (x.place ≤ end) × (x.count ≤ end)
-FaultWithin end head.Ended = Unit {0}
+FaultWithin end (Ok h) = Unit {0}
+FaultWithin end (Err (halt.Bad x)) = (x.place ≤ end) × (x.count ≤ end)
+FaultWithin end (Err halt.Ended) = Unit {0}
 
 module _ (s : List ℕ) (at end : ℕ) where
   checked_within : (kind size long : ℕ) → at + long ≤ end → FaultWithin end (checked_at at end kind size long)

@@ -9,6 +9,7 @@ use lib.Dec.{eqb, ltb, leb}
 use lib.ListN.{length, drop, get_or, length-drop, drop_of_length-le}
 use lib.Seq.{drop-cons, drop-drop}
 use borrow.Author.Tests.{lt-ltb, le-ltb, lt-leb, le-leb}
+use Rattle.std.specs.Prelude.{Err}
 use Rattle.basics.specs.Choose.{pick}
 use Rattle.basics.proofs.Picks.{lt_or_ge, pick_both, pick_with, pick_yes, pick_no}
 use Rattle.machine.specs.Faults.{refusal, shows, unless}
@@ -19,10 +20,9 @@ use Rattle.machine.specs.declared.Header.{Header}
 use Rattle.machine.specs.declared.Refusal.{Refusal}
 use Rattle.machine.proofs.Fields.{field_take, field_short, skip_take, skip_short}
 use Rattle.machine.proofs.Lowest.{AtMostEach, lower_each, unless_one, unless_first}
-use Rattle.fields.specs.Answers.{number_at, field_at, checked_at, large_at, head_at}
-use Rattle.fields.specs.Onward.{ended, from, on_field, on_head}
-use Rattle.fields.specs.declared.HeadRead.{HeadRead}
-use Rattle.fields.specs.declared.HeadRead.TheVariants as head
+use Rattle.fields.specs.Answers.{number_at, field_at, checked_at, large_at, head_at, HeadRead}
+use Rattle.fields.specs.Onward.{ended, from, halted, on_field, on_head}
+use Rattle.fields.specs.declared.Halt.TheVariants as halt
 
 -- what is left from a position on is as long as the bytes after it
 module _ (s : List ℕ) (at w : ℕ) (here : at ≤ length s) where
@@ -128,7 +128,7 @@ module _ {B R F L : Type 0} (k : Kind B R F L) (body_d : Header → F → ℕ �
 
   -- rows 4 and 5 of a header of so many bytes
   checked_descent : (kind size long : ℕ) → from k.left base s f (faults_d (header n kind size long)) (at + long) ≡ Onto (checked_at at end kind size long)
-  unfolding checked_at on_head
+  unfolding checked_at on_head halted
   checked_descent kind size long =
       let h : Header = header n kind size long in
       let worse : Refusal → Res R F L = λ (x : Refusal). fail x (k.left f) (base + (at + long)) in
@@ -153,12 +153,12 @@ module _ {B R F L : Type 0} (k : Kind B R F L) (body_d : Header → F → ℕ �
   large_d kind g m cs = field_d k.left plain (λ large g' m' cs'. okay (header n kind large 16) g' m' cs') 8 0 g m cs
 
   large_descent : (kind : ℕ) → at + 8 ≤ length s → ltb end (at + 16) ≡ false →
-      Then (HeadFrom (large_d kind) (at + 8)) ≡ Onto (pick (ltb (length s) (at + 16)) head.Ended (checked_at at end kind (number_at 8 s (at + 8)) 16))
-  unfolding on_head either
+      Then (HeadFrom (large_d kind) (at + 8)) ≡ Onto (pick (ltb (length s) (at + 16)) (Err halt.Ended) (checked_at at end kind (number_at 8 s (at + 8)) 16))
+  unfolding on_head halted either
   large_descent kind there t = at_length (lt_or_ge (length s) (at + 16))
     where
       at_length : (length s < at + 16) ⊎ (at + 16 ≤ length s) →
-          Then (HeadFrom (large_d kind) (at + 8)) ≡ Onto (pick (ltb (length s) (at + 16)) head.Ended (checked_at at end kind (number_at 8 s (at + 8)) 16))
+          Then (HeadFrom (large_d kind) (at + 8)) ≡ Onto (pick (ltb (length s) (at + 16)) (Err halt.Ended) (checked_at at end kind (number_at 8 s (at + 8)) 16))
       at_length (inl h) =
           ap Then (field_ends_lem k.left base s f _ 8 (at + 8) there (omega arith)) ∙ ap Onto (sym (pick_yes (ltb (length s) (at + 16)) _ _ (lt-ltb _ _ h)))
       at_length (inr h) =
@@ -171,7 +171,7 @@ module _ {B R F L : Type 0} (k : Kind B R F L) (body_d : Header → F → ℕ �
   -- size and type are read
   sized_descent : (size kind : ℕ) → at + 8 ≤ length s →
       Then (HeadFrom (sized_d k.left k.end n size kind) (at + 8)) ≡ Onto (pick (eqb size 1) (large_at s at end kind) (checked_at at end kind size 8))
-  unfolding sized_d large_at on_head either
+  unfolding sized_d large_at on_head halted either
   sized_descent size kind there =
       pick_both (eqb size 1) Then Onto _ _ _ _
       (ap Then (unless_one (ltb k.end (n + 16)) 5 n (λ x. fail x (k.left f) (base + (at + 8))) (HeadFrom (large_d kind) (at + 8))
@@ -212,7 +212,7 @@ module _ {B R F L : Type 0} (k : Kind B R F L) (body_d : Header → F → ℕ �
       ∙ ap (λ (l : List ℕ). unless (under_eight k.end n) worse (size_d f n l)) (sym (drop-cons s at 0 h))
 
   box_there : at < length s → box_d k body_d f n (drop at s) ≡ Onto (head_at s at end)
-  unfolding box_d head_at on_head either
+  unfolding box_d head_at on_head halted either
   box_there h =
       let q : suc n ≡ base + (at + 1) = omega arith in
       ap Then (head_fields h
@@ -222,7 +222,7 @@ module _ {B R F L : Type 0} (k : Kind B R F L) (body_d : Header → F → ℕ �
       ∙ ap Onto (sym (pick_no (leb (length s) at) _ _ (lt-leb _ _ h)))
     where
       at_length : (length s < at + 8) ⊎ (at + 8 ≤ length s) → Then (HeadFrom size_d at)
-          ≡ Onto (pick (ltb (length s) (at + 8)) head.Ended
+          ≡ Onto (pick (ltb (length s) (at + 8)) (Err halt.Ended)
           (pick (eqb (number_at 4 s at) 1) (large_at s at end (number_at 4 s (at + 4))) (checked_at at end (number_at 4 s (at + 4)) (number_at 4 s at) 8)))
       at_length (inl l) = ap Then (fields_end l) ∙ ap Onto (sym (pick_yes (ltb (length s) (at + 8)) _ _ (lt-ltb _ _ l)))
       at_length (inr l) =
@@ -231,7 +231,7 @@ module _ {B R F L : Type 0} (k : Kind B R F L) (body_d : Header → F → ℕ �
           ∙ ap Onto (sym (pick_no (ltb (length s) (at + 8)) _ _ (le-ltb _ _ l)))
 
   pub box_descent : box_d k body_d f n (drop at s) ≡ Onto (head_at s at end)
-  unfolding box_d head_d head_at on_head either
+  unfolding box_d head_d head_at on_head halted either
   box_descent = at_length (lt_or_ge at (length s))
     where
       at_length : (at < length s) ⊎ (length s ≤ at) → box_d k body_d f (base + at) (drop at s) ≡ Onto (head_at s at end)

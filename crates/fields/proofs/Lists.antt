@@ -6,6 +6,7 @@ use mathlib.Core.List.{List, []}
 use native.Mathlib.Omega.{arith}
 use lib.Dec.{eqb, ltb, leb}
 use lib.ListN.{length, drop, drop_of_length-le}
+use Rattle.std.specs.Prelude.{Ok, Err}
 use Rattle.basics.proofs.Picks.{pick_holds}
 use Rattle.machine.specs.Faults.{refusal, lowest, unless}
 use Rattle.machine.specs.Run.{Res, fail, cut, either}
@@ -13,18 +14,17 @@ use Rattle.machine.specs.Heads.{head_d}
 use Rattle.machine.specs.Lists.{Boxes, box_d, go_on_d, boxes_d}
 use Rattle.machine.specs.declared.Header.{Header}
 use Rattle.machine.proofs.Lowest.{AtMostEach}
-use Rattle.fields.specs.Answers.{number_at, checked_at, large_at, head_at}
-use Rattle.fields.specs.Onward.{placed, ended, on_head}
-use Rattle.fields.specs.declared.HeadRead.{HeadRead}
-use Rattle.fields.specs.declared.HeadRead.TheVariants as head
+use Rattle.fields.specs.Answers.{number_at, checked_at, large_at, head_at, HeadRead}
+use Rattle.fields.specs.Onward.{placed, ended, halted, on_head}
+use Rattle.fields.specs.declared.Halt.TheVariants as halt
 use Rattle.fields.specs.declared.Stop.{Stop}
 use Rattle.fields.proofs.Descents.{box_descent}
 
 -- a header's answer lists no leaf
 abbrev NoLeaf : HeadRead → Type 0
-NoLeaf (head.Read h) = Unit {0}
-NoLeaf (head.Bad x) = x.leaves ≡ 0
-NoLeaf head.Ended = Unit {0}
+NoLeaf (Ok h) = Unit {0}
+NoLeaf (Err (halt.Bad x)) = x.leaves ≡ 0
+NoLeaf (Err halt.Ended) = Unit {0}
 
 module _ (s : List ℕ) (at end : ℕ) where
   checked_none : (kind size long : ℕ) → NoLeaf (checked_at at end kind size long)
@@ -42,7 +42,7 @@ module _ (s : List ℕ) (at end : ℕ) where
       (λ t. pick_holds NoLeaf (ltb end (at + 8)) _ _ (λ u. refl)
       (λ u. pick_holds NoLeaf (ltb (length s) (at + 8)) _ _ (λ v. tt) (λ v. pick_holds NoLeaf (eqb (number_at 4 s at) 1) _ _ (λ w. large_none _) (λ w. checked_none _ _ 8))))
 
-  pub head_stop : (x : Stop) → head_at s at end ≡ head.Bad x → x.leaves ≡ 0
+  pub head_stop : (x : Stop) → head_at s at end ≡ Err (halt.Bad x) → x.leaves ≡ 0
   head_stop x e = subst (λ (r : HeadRead). NoLeaf r) e head_none
 
 module _ {A B R Q F L : Type 0} (l : Boxes A B R Q F L) (body_d : A → Header → F → ℕ → List ℕ → Res R F L) where
@@ -78,22 +78,22 @@ module _ {A B R Q F L : Type 0} (l : Boxes A B R Q F L) (body_d : A → Header �
       list_head = list_turn turns enough ∙ ap (on_box (turns - 1) a) (box_descent (l.box a) (body_d a) base end at s f here ends high)
 
       -- the bytes end before the header does
-      pub list_ended : head_at s at end ≡ head.Ended → ListAt ≡ ended l.kept base s f
-      unfolding on_head on_box either
+      pub list_ended : head_at s at end ≡ Err halt.Ended → ListAt ≡ ended l.kept base s f
+      unfolding on_head halted on_box either
       list_ended e =
           list_head ∙ ap (λ (r : HeadRead). on_box (turns - 1) a (on_head (l.box a).left base s f headed_d r)) e
           ∙ ap (λ (left : F → L). cut (left f) (base + length s)) (lefts a)
 
       -- the header is at fault
-      pub list_stopped : (x : Stop) → head_at s at end ≡ head.Bad x →
+      pub list_stopped : (x : Stop) → head_at s at end ≡ Err (halt.Bad x) →
           ListAt ≡ fail (lowest (refusal x.number (base + x.place)) (l.beside a (l.kept f) (base + x.count))) (l.kept f) (base + x.count)
-      unfolding on_head on_box either
+      unfolding on_head halted on_box either
       list_stopped x e =
           list_head ∙ ap (λ (r : HeadRead). on_box (turns - 1) a (on_head (l.box a).left base s f headed_d r)) e
           ∙ ap (λ (left : F → L). fail (lowest (refusal x.number (base + x.place)) (l.beside a (left f) (base + x.count))) (left f) (base + x.count)) (lefts a)
 
       -- the header is read
-      pub list_headed : (h : Header) → head_at s at end ≡ head.Read h →
+      pub list_headed : (h : Header) → head_at s at end ≡ Ok h →
           ListAt ≡ on_box (turns - 1) a (headed_d (placed base h) f (base + (h.pos + h.head)) (drop (h.pos + h.head) s))
-      unfolding on_head
+      unfolding on_head halted
       list_headed h e = list_head ∙ ap (λ (r : HeadRead). on_box (turns - 1) a (on_head (l.box a).left base s f headed_d r)) e

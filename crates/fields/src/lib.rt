@@ -11,13 +11,6 @@ const SHORT: usize = 8;
 
 const LONG: usize = 16;
 
-// A field: its value and the position after it, or that the bytes end before it does.
-#[derive(Clone, Copy)]
-pub enum FieldRead {
-    Read(u64, usize),
-    Ended,
-}
-
 // A fault: its number and its place, how many bytes were read up to the one that shows it, and how many leaves were listed. The last
 // is 0 but where entries are passed; with it a refusal is as long as a header, and is handed on without being copied.
 #[derive(Clone, Copy)]
@@ -28,12 +21,11 @@ pub struct Stop {
     pub leaves: u64,
 }
 
-// A header: read, at fault, or that the bytes end before it does.
+// Why a reading goes no further: the bytes end, or a fault shows.
 #[derive(Clone, Copy)]
-pub enum HeadRead {
-    Read(Header),
-    Bad(Stop),
+pub enum Halt {
     Ended,
+    Bad(Stop),
 }
 
 // A fault of the box at `pos`, met at the byte before `next`.
@@ -91,42 +83,38 @@ fn number_at(bytes: &[u8], at: usize, width: usize) -> u64
     requires { (some_width width ≡ true) × (at + width ≤ length bytes.now) }
     ensures { (result ≡ number_at width bytes.now at) × (result < 256 ^ width) }
 {
-    if width == 1 {
-        return wide(bytes[at]);
+    match width {
+        1 => wide(bytes[at]),
+        2 => pair_at(bytes, at),
+        4 => word_at(bytes, at),
+        _ => long_at(bytes, at),
     }
-    if width == 2 {
-        return pair_at(bytes, at);
-    }
-    if width == 4 {
-        return word_at(bytes, at);
-    }
-    long_at(bytes, at)
 }
 
-// The field of so many bytes at a position.
-pub fn field_at(bytes: &[u8], at: usize, width: usize) -> FieldRead
+// The field of so many bytes at a position: its value and the position after it; none where the bytes end before it does.
+pub fn field_at(bytes: &[u8], at: usize, width: usize) -> Option<(u64, usize)>
     requires { (some_width width ≡ true) × (at ≤ farthest) }
     ensures { (result ≡ field_at bytes.now at width) × Small width result }
 {
     let next = at + width;
     if bytes.len() < next {
-        return FieldRead::Ended;
+        return None;
     }
-    FieldRead::Read(number_at(bytes, at, width), next)
+    Some((number_at(bytes, at, width), next))
 }
 
 // A header of so many bytes is read: its size is at least its own length, and its box ends in its container.
-fn checked(at: usize, end: usize, kind: u64, size: u64, head: usize) -> HeadRead
+fn checked(at: usize, end: usize, kind: u64, size: u64, head: usize) -> Result<Header, Halt>
     requires { (at + head ≤ end) × (at + head ≤ farthest) }
     ensures { result ≡ checked_at at end kind size head }
 {
     if size < head as u64 {
-        return HeadRead::Bad(stop_at(4, at, at + head));
+        return Err(Halt::Bad(stop_at(4, at, at + head)));
     }
     if ((end - at) as u64) < size {
-        return HeadRead::Bad(stop_at(5, at, at + head));
+        return Err(Halt::Bad(stop_at(5, at, at + head)));
     }
-    HeadRead::Read(Header {
+    Ok(Header {
         pos: at as u64,
         kind,
         size,
@@ -135,33 +123,30 @@ fn checked(at: usize, end: usize, kind: u64, size: u64, head: usize) -> HeadRead
 }
 
 // Size 1: a 64-bit size follows the type.
-fn large_head(bytes: &[u8], at: usize, end: usize, kind: u64) -> HeadRead
+fn large_head(bytes: &[u8], at: usize, end: usize, kind: u64) -> Result<Header, Halt>
     requires { at + 16 ≤ farthest }
     ensures { result ≡ large_at bytes.now at end kind }
 {
     if end < at + LONG {
-        return HeadRead::Bad(stop_at(5, at, at + SHORT));
+        return Err(Halt::Bad(stop_at(5, at, at + SHORT)));
     }
-    let got = field_at(bytes, at + SHORT, 8);
-    let FieldRead::Read(size, _) = got else {
-        return HeadRead::Ended;
-    };
+    let (size, _) = field_at(bytes, at + SHORT, 8).ok_or(Halt::Ended)?;
     checked(at, end, kind, size, LONG)
 }
 
 // The header of the box at a position, whose container ends at `end`.
-pub fn head_at(bytes: &[u8], at: usize, end: usize) -> HeadRead
+pub fn head_at(bytes: &[u8], at: usize, end: usize) -> Result<Header, Halt>
     requires { at + 16 ≤ farthest }
     ensures { result ≡ head_at bytes.now at end }
 {
     if bytes.len() <= at {
-        return HeadRead::Ended;
+        return Err(Halt::Ended);
     }
     if end < at + SHORT {
-        return HeadRead::Bad(stop_at(5, at, at + 1));
+        return Err(Halt::Bad(stop_at(5, at, at + 1)));
     }
     if bytes.len() < at + SHORT {
-        return HeadRead::Ended;
+        return Err(Halt::Ended);
     }
     let size = word_at(bytes, at);
     let kind = word_at(bytes, at + 4);

@@ -1,25 +1,10 @@
--- The code's answer to a byte of a header, with what flows, as a machine's answer: nothing of what flows changes in a header.
+-- What a list of boxes makes of the answer of the box in it.
 use Rattle.std.specs.Prelude.{ℕ}
-use Rattle.machine.specs.Faults.{refusal}
-use Rattle.machine.specs.Run.{Sub, go, done, bad, lift}
+use Rattle.machine.specs.Run.{Sub, bad, lift}
 use Rattle.machine.specs.Lists.{BoxPhase, in_head, Boxes, lift_body, lift_box, headed}
 use Rattle.machine.specs.declared.Head.{Head}
 use Rattle.machine.specs.declared.Header.{Header}
-use Rattle.machine.specs.declared.Refusal.{Refusal}
-use Rattle.state.specs.Flow.{Flow, Left, left}
-use Rattle.header.specs.declared.HeadStep.{HeadStep}
-use Rattle.header.specs.declared.HeadStep.TheVariants as heads
-use Rattle.header.specs.declared.HeadSo.TheVariants as so
-
-abbrev pub view_head : Flow → HeadStep → Sub Head Header Flow Left
-view_head f (heads.Taken (so.Going h)) = go h f
-view_head f (heads.Taken (so.Read h)) = done h f
-view_head f (heads.Bad x) = bad x (left f)
-
--- the refusal that an answer holds; number 0 is none
-abbrev pub refusal_head : HeadStep → Refusal
-refusal_head (heads.Taken s) = refusal 0 0
-refusal_head (heads.Bad x) = x
+use Rattle.state.specs.Flow.{Flow, Left}
 
 -- The answer of a box's body, of a header that was read, and of a byte of a header, in a list: `n` bytes up to the one at hand.
 module _ {A B R Q S : Type 0} (l : Boxes A B R Q Flow Left) (wrap : A → BoxPhase B → S) (a : A) (n : ℕ) where

@@ -6,41 +6,14 @@ ghost use Rattle.segment.specs.Constants.{limit};
 ghost use Rattle.machine.specs.Heads.{sized, step_head};
 ghost use Rattle.state.specs.Flow.{Flow, left};
 ghost use Rattle.state.specs.Ranges.{Within, head_bounds};
-ghost use Rattle.header.specs.Views.{view_head, refusal_head};
+ghost use Rattle.state.specs.Views.{view};
 
-use machine::{Head, Header, Refusal};
+use machine::{Head, Header, Refusal, Step};
 
 // How many bytes a header has: with a size of 32 bits, and with one of 64.
 const SHORT: u64 = 8;
 
 const LONG: u64 = 16;
-
-// What a byte makes of a header: it is taken, or it is refused.
-#[derive(Clone, Copy)]
-pub enum HeadStep {
-    Taken(HeadSo),
-    Bad(Refusal),
-}
-
-// A header so far: it goes on, or it is read.
-#[derive(Clone, Copy)]
-pub enum HeadSo {
-    Going(Head),
-    Read(Header),
-}
-
-// The refusal that goes out where a byte of a header was not taken; of a byte that was taken there is none.
-pub fn refused_head(r: HeadStep) -> Refusal
-    ensures { result ≡ refusal_head r }
-{
-    match r {
-        HeadStep::Taken(_) => Refusal {
-            number: 0,
-            place: 0,
-        },
-        HeadStep::Bad(x) => x,
-    }
-}
 
 // A number's next byte. A number of eight bytes has seven before its last, so that no sum wraps.
 pub fn spelled(acc: u64, b: u8) -> u64
@@ -50,37 +23,44 @@ pub fn spelled(acc: u64, b: u8) -> u64
     acc * 256 + (b as u64)
 }
 
-fn first_byte(end: u64, n: u64, b: u8) -> HeadStep
+fn first_byte(end: u64, n: u64, b: u8) -> Result<Step<Head, Header>, Refusal>
     requires { n < limit }
-    ensures { (f : Flow) → view_head f result ≡ step_head left end Head.First f n b }
+    ensures { (f : Flow) → view f result ≡ step_head left end Head.First f n b }
 {
     if end < n + SHORT {
-        return HeadStep::Bad(Refusal {
+        return Err(Refusal {
             number: 5,
             place: n,
         });
     }
-    HeadStep::Taken(HeadSo::Going(Head::Size {
+    Ok(Step::Going(Head::Size {
         pos: n,
         more: 2,
         acc: b as u64,
     }))
 }
 
-fn size_byte(end: u64, pos: u64, more: u64, acc: u64, n: u64, b: u8) -> HeadStep
+fn size_byte(
+    end: u64,
+    pos: u64,
+    more: u64,
+    acc: u64,
+    n: u64,
+    b: u8,
+) -> Result<Step<Head, Header>, Refusal>
     requires { acc < 72057594037927936 }
-    ensures { (f : Flow) → view_head f result ≡ step_head left end (Head.Size pos more acc) f n b }
+    ensures { (f : Flow) → view f result ≡ step_head left end (Head.Size pos more acc) f n b }
 {
     let v = spelled(acc, b);
     if more == 0 {
-        return HeadStep::Taken(HeadSo::Going(Head::Kind {
+        return Ok(Step::Going(Head::Kind {
             pos,
             size: v,
             more: 3,
             acc: 0,
         }));
     }
-    HeadStep::Taken(HeadSo::Going(Head::Size {
+    Ok(Step::Going(Head::Size {
         pos,
         more: more - 1,
         acc: v,
@@ -88,12 +68,12 @@ fn size_byte(end: u64, pos: u64, more: u64, acc: u64, n: u64, b: u8) -> HeadStep
 }
 
 // Size and type are read. Size 1 means that a 64-bit size follows.
-fn sized_by(end: u64, pos: u64, size: u64, kind: u64) -> HeadStep
+fn sized_by(end: u64, pos: u64, size: u64, kind: u64) -> Result<Step<Head, Header>, Refusal>
     requires { pos ≤ limit }
-    ensures { (f : Flow) → view_head f result ≡ sized left end pos size kind f }
+    ensures { (f : Flow) → view f result ≡ sized left end pos size kind f }
 {
     if size != 1 {
-        return HeadStep::Taken(HeadSo::Read(Header {
+        return Ok(Step::Done(Header {
             pos,
             kind,
             size,
@@ -101,12 +81,12 @@ fn sized_by(end: u64, pos: u64, size: u64, kind: u64) -> HeadStep
         }));
     }
     if end < pos + LONG {
-        return HeadStep::Bad(Refusal {
+        return Err(Refusal {
             number: 5,
             place: pos,
         });
     }
-    HeadStep::Taken(HeadSo::Going(Head::Large {
+    Ok(Step::Going(Head::Large {
         pos,
         kind,
         more: 7,
@@ -114,15 +94,23 @@ fn sized_by(end: u64, pos: u64, size: u64, kind: u64) -> HeadStep
     }))
 }
 
-fn kind_byte(end: u64, pos: u64, size: u64, more: u64, acc: u64, n: u64, b: u8) -> HeadStep
+fn kind_byte(
+    end: u64,
+    pos: u64,
+    size: u64,
+    more: u64,
+    acc: u64,
+    n: u64,
+    b: u8,
+) -> Result<Step<Head, Header>, Refusal>
     requires { (pos ≤ limit) × (acc < 72057594037927936) }
-    ensures { (f : Flow) → view_head f result ≡ step_head left end (Head.Kind pos size more acc) f n b }
+    ensures { (f : Flow) → view f result ≡ step_head left end (Head.Kind pos size more acc) f n b }
 {
     let v = spelled(acc, b);
     if more == 0 {
         return sized_by(end, pos, size, v);
     }
-    HeadStep::Taken(HeadSo::Going(Head::Kind {
+    Ok(Step::Going(Head::Kind {
         pos,
         size,
         more: more - 1,
@@ -130,20 +118,28 @@ fn kind_byte(end: u64, pos: u64, size: u64, more: u64, acc: u64, n: u64, b: u8) 
     }))
 }
 
-fn large_byte(end: u64, pos: u64, kind: u64, more: u64, acc: u64, n: u64, b: u8) -> HeadStep
+fn large_byte(
+    end: u64,
+    pos: u64,
+    kind: u64,
+    more: u64,
+    acc: u64,
+    n: u64,
+    b: u8,
+) -> Result<Step<Head, Header>, Refusal>
     requires { acc < 72057594037927936 }
-    ensures { (f : Flow) → view_head f result ≡ step_head left end (Head.Large pos kind more acc) f n b }
+    ensures { (f : Flow) → view f result ≡ step_head left end (Head.Large pos kind more acc) f n b }
 {
     let v = spelled(acc, b);
     if more == 0 {
-        return HeadStep::Taken(HeadSo::Read(Header {
+        return Ok(Step::Done(Header {
             pos,
             kind,
             size: v,
             head: LONG,
         }));
     }
-    HeadStep::Taken(HeadSo::Going(Head::Large {
+    Ok(Step::Going(Head::Large {
         pos,
         kind,
         more: more - 1,
@@ -152,9 +148,9 @@ fn large_byte(end: u64, pos: u64, kind: u64, more: u64, acc: u64, n: u64, b: u8)
 }
 
 // One byte of a header whose container ends at `end`; `n` bytes stand before it.
-pub fn head_byte(end: u64, h: Head, n: u64, b: u8) -> HeadStep
+pub fn head_byte(end: u64, h: Head, n: u64, b: u8) -> Result<Step<Head, Header>, Refusal>
     requires { Within (head_bounds h) × (n < limit) }
-    ensures { (f : Flow) → view_head f result ≡ step_head left end h f n b }
+    ensures { (f : Flow) → view f result ≡ step_head left end h f n b }
 {
     match h {
         Head::First => first_byte(end, n, b),

@@ -51,10 +51,14 @@ place_most : (p : Where) (e : EntryPart) (s : Sums) (more : ℕ) → Shallow p �
 place_most p e s more h k = let l = part_most p h in let m = word_most e in omega arith
 
 -- A number before the entries: what the bytes before its last spell, and what it is once it is read.
-module _ (i : IndexPart) (d : Draft) (more acc : ℕ) (w : Within (sidx_bounds (sidx.Field i d more acc))) where
+module _ {s : Sidx} {i : IndexPart} {d : Draft} {more acc : ℕ}
+    (e : s ≡ sidx.Field i d more acc) (w : Within (sidx_bounds s)) where
+  field_within : Within (sidx_bounds (sidx.Field i d more acc))
+  field_within = rw e at w
+
   field_spelled : Within (spelled_bounds (index_most i d.wide) more acc)
   unfolding sidx_bounds
-  field_spelled = w.1.1.1
+  field_spelled = field_within.1.1.1
 
   pub field_small : acc < 72057594037927936
   field_small = spelled_small (index_most i d.wide) more acc (index_most_lem i d.wide) field_spelled

@@ -1,9 +1,16 @@
 -- The bytes that pass at once, whatever the state.
 use Rattle.std.specs.Prelude.{ℕ, ◌+◌, ◌≤◌}
+use Rattle.machine.specs.declared.BoxesSo.{BoxesSo}
+use Rattle.machine.specs.declared.BoxesSo.TheVariants as inBoxes
 use Rattle.segment.specs.Constants.{limit}
 use Rattle.state.specs.Jump.{passing}
 use Rattle.state.specs.declared.State.{State}
 use Rattle.state.specs.declared.State.TheVariants as state
+
+-- where the skipped body ends in a list of boxes, told that of a body; 0 where none is being skipped
+unfoldable pub boxes_skips : {A B : Type 0} → (B → ℕ) → BoxesSo A B → ℕ
+boxes_skips of_body (inBoxes.Head a h) = 0
+boxes_skips of_body (inBoxes.Body a b) = of_body b
 
 -- of so many bytes at hand, how many pass at once; and the state after them. A refusal is kept, and an accepted list too: all pass.
 unfoldable pub passes : State → ℕ → ℕ

@@ -1,5 +1,6 @@
 -- Law D: start, one feed of all the bytes and finish give what the descent gives: answer, state, work area and leaf table.
-use Prim.Native.Nat.{ℕ, suc, ◌-◌, ◌≤◌, ◌<◌}
+use Rattle.std.specs.Prelude.{ℕ, Result, Ok, Err}
+use Prim.Native.Nat.{ℕ, suc, ◌≤◌, ◌<◌}
 use mathlib.Core.Path.{◌≡◌, refl, ap, sym, ◌∙◌}
 use mathlib.Core.List.{List, [], ◌∷◌}
 use mathlib.Core.Bool.{Bool, true, false}
@@ -21,9 +22,6 @@ use Rattle.machine.specs.declared.Refusal.{Refusal}
 use Rattle.state.specs.declared.Top.{Top}
 use Rattle.state.specs.declared.Stage.{Stage}
 use Rattle.state.specs.declared.State.TheVariants as state
-use Rattle.state.specs.declared.FeedAnswer.{FeedAnswer}
-use Rattle.state.specs.declared.FinishAnswer.{FinishAnswer}
-use Rattle.state.specs.declared.FinishAnswer.TheVariants as finishes
 use Rattle.state.specs.Flow.{Flow, Left, left, work_bytes}
 use Rattle.state.specs.Stages.{step_stage}
 use Rattle.state.specs.Step.{World, reading, ended, refused, settle, past_limit, over_limit, left_over, past_material, step, step_all, stage0, flow0}
@@ -42,10 +40,10 @@ abbrev over : Refusal
 over = refusal 3 limit
 
 -- what finish makes of a reading
-unfoldable outcome_of : World → Out FinishAnswer
-outcome_of (reading n s f) = out (finishes.Refused (refusal 20 n)) (state.Refused n f.leaves (refusal 20 n)) f.work f.table
-outcome_of (ended n top kept) = out (finishes.Listed kept.leaves) (state.Accepted n kept.leaves top) kept.work kept.table
-outcome_of (refused n x kept) = out (finishes.Refused x) (state.Refused n kept.leaves x) kept.work kept.table
+unfoldable outcome_of : World → Out (Result ℕ Refusal)
+outcome_of (reading n s f) = out (Err (refusal 20 n)) (state.Refused n f.leaves (refusal 20 n)) f.work f.table
+outcome_of (ended n top kept) = out (Ok kept.leaves) (state.Accepted n kept.leaves top) kept.work kept.table
+outcome_of (refused n x kept) = out (Err x) (state.Refused n kept.leaves x) kept.work kept.table
 
 -- a refused reading stays as it is
 run_refused : (n : ℕ) (x : Refusal) (kept : Left) (bs : List ℕ) → step_all (refused n x kept) bs ≡ refused n x kept
@@ -117,7 +115,7 @@ module _ (brand : ℕ) (bytes work table : List ℕ) where
       ∙ ap (λ (r : Res Top Flow Left). beyond over r (drop limit bytes)) (sym (segment_run brand (flow0 work table) 0 (take limit bytes))))
 
   -- Law D.
-  abbrev finish_out : Out FeedAnswer → Out FinishAnswer
+  abbrev finish_out : Out (Result ℕ Refusal) → Out (Result ℕ Refusal)
   finish_out o = finish_after o o.answer
 
   pub law_d : AllBytes bytes → whole_d brand bytes work table ≡ whole_of brand bytes work table

@@ -1,5 +1,5 @@
 -- A leaf by structure is the leaf read byte by byte: its boxes, those of a `moof` in it, and those of a `traf` in that.
-use Prim.Native.Nat.{ℕ, suc, ◌-◌}
+use Prim.Native.Nat.{ℕ, suc}
 use mathlib.Core.Path.{◌≡◌, refl, ap, sym, ◌∙◌}
 use mathlib.Core.List.{List, []}
 use mathlib.Core.Bool.{Bool, true, false}
@@ -26,14 +26,14 @@ use Rattle.state.specs.declared.TrafPart.{TrafPart}
 use Rattle.state.specs.declared.TrafPart.TheVariants as part
 use Rattle.state.specs.declared.TrafBody.{TrafBody}
 use Rattle.state.specs.declared.TrafBody.TheVariants as body
-use Rattle.state.specs.declared.TrafBoxes.{TrafBoxes}
+use Rattle.state.specs.Boxed.{TrafBoxes}
 use Rattle.state.specs.declared.MoofBody.{MoofBody}
 use Rattle.state.specs.declared.MoofBody.TheVariants as moofs
-use Rattle.state.specs.declared.MoofBoxes.{MoofBoxes}
+use Rattle.state.specs.Boxed.{MoofBoxes}
 use Rattle.state.specs.declared.LeafSo.{LeafSo}
 use Rattle.state.specs.declared.LeafBody.{LeafBody}
 use Rattle.state.specs.declared.LeafBody.TheVariants as leaves
-use Rattle.state.specs.declared.LeafBoxes.TheVariants as leafBox
+use Rattle.machine.specs.declared.BoxesSo.TheVariants as inBoxes
 use Rattle.state.specs.Flow.{Flow, Left, left}
 use Rattle.state.specs.Rows.{is}
 use Rattle.state.specs.Opening.{span_of}
@@ -138,7 +138,7 @@ module _ (id : ℕ) where
   leaf_steps slot a (in_body s) f n b = refl
 
   -- a leaf, from its first byte on
-  pub leaf_run : (slot : Slot) (f : Flow) (n : ℕ) (bs : List ℕ) → leaf_d id slot f n bs ≡ run left (step_leaf id slot) (leafBox.Head (leaf_so0 f.last) at.First) f n bs
+  pub leaf_run : (slot : Slot) (f : Flow) (n : ℕ) (bs : List ℕ) → leaf_d id slot f n bs ≡ run left (step_leaf id slot) (inBoxes.Head (leaf_so0 f.last) at.First) f n bs
   leaf_run slot f n bs =
       boxes_run (leaf_boxes id slot) wrap_leaf (step_leaf id slot) (leaf_steps slot) (λ a. refl) (λ so. leaf_body_d id so.seen) (λ so. leaf_body so.seen)
       (length bs) (leaf_so0 f.last) f n bs (omega arith)

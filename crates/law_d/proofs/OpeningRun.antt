@@ -1,5 +1,5 @@
 -- The boxes up to the top index by structure are those boxes read byte by byte.
-use Prim.Native.Nat.{ℕ, zero, suc, ◌-◌, ◌≤◌, ◌<◌}
+use Prim.Native.Nat.{ℕ, zero, suc, ◌≤◌, ◌<◌}
 use mathlib.Core.Path.{◌≡◌, refl, ap, sym, ◌∙◌}
 use mathlib.Core.List.{List}
 use mathlib.Core.Bool.{Bool, false, ◌||◌}
@@ -23,7 +23,7 @@ use Rattle.state.specs.declared.StypPart.{StypPart}
 use Rattle.state.specs.declared.StypPart.TheVariants as styps
 use Rattle.state.specs.declared.OpeningBody.{OpeningBody}
 use Rattle.state.specs.declared.OpeningBody.TheVariants as body
-use Rattle.state.specs.declared.OpeningBoxes.TheVariants as boxes
+use Rattle.machine.specs.declared.BoxesSo.TheVariants as inBoxes
 use Rattle.state.specs.Flow.{Flow, Left, left}
 use Rattle.state.specs.Rows.{is}
 use Rattle.state.specs.Sidx.{topmost, sidx_start, step_sidx}
@@ -72,7 +72,7 @@ module _ (brand : ℕ) where
 
   -- from any box of the opening on; `branded` where the `styp` stands before it
   pub opening_from : (branded : Bool) (f : Flow) (n : ℕ) (bs : List ℕ) →
-      boxes_d (opening brand) (λ b. opening_body_d brand) (suc (length bs)) branded f n bs ≡ run left (step_opening brand) (boxes.Head branded at.First) f n bs
+      boxes_d (opening brand) (λ b. opening_body_d brand) (suc (length bs)) branded f n bs ≡ run left (step_opening brand) (inBoxes.Head branded at.First) f n bs
   unfolding step_opening
   opening_from branded f n bs =
       boxes_run (opening brand) wrap_opening (step_opening brand) steps (λ a. refl) (λ a. opening_body_d brand) (λ a. opening_body) (suc (length bs)) branded f n bs (omega arith)
@@ -81,5 +81,5 @@ module _ (brand : ℕ) where
       steps a (in_head h) g m b = refl
       steps a (in_body s) g m b = refl
 
-  pub opening_run : (f : Flow) (n : ℕ) (bs : List ℕ) → opening_d brand f n bs ≡ run left (step_opening brand) (boxes.Head false at.First) f n bs
+  pub opening_run : (f : Flow) (n : ℕ) (bs : List ℕ) → opening_d brand f n bs ≡ run left (step_opening brand) (inBoxes.Head false at.First) f n bs
   opening_run f n bs = opening_from false f n bs

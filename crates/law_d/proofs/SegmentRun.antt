@@ -1,5 +1,5 @@
 -- The segment by structure is the segment read byte by byte.
-use Prim.Native.Nat.{ℕ, zero, suc, ◌+◌, ◌-◌, ◌≤◌, ◌<◌}
+use Prim.Native.Nat.{ℕ, zero, suc, ◌+◌, ◌≤◌, ◌<◌}
 use mathlib.Core.Path.{◌≡◌, refl, ap, sym, ◌∙◌}
 use mathlib.Core.List.{List, [], ◌∷◌}
 use mathlib.Core.Option.{Option, some, none}
@@ -32,10 +32,9 @@ use Rattle.state.specs.declared.Slot.{Slot}
 use Rattle.state.specs.declared.IndexRead.{IndexRead}
 use Rattle.state.specs.declared.GapBoxes.{GapBoxes}
 use Rattle.state.specs.declared.GapBoxes.TheVariants as gaps
-use Rattle.state.specs.declared.OpeningBoxes.{OpeningBoxes}
-use Rattle.state.specs.declared.OpeningBoxes.TheVariants as openings
-use Rattle.state.specs.declared.LeafBoxes.{LeafBoxes}
-use Rattle.state.specs.declared.LeafBoxes.TheVariants as leafBox
+use Rattle.state.specs.Boxed.{OpeningBoxes}
+use Rattle.machine.specs.declared.BoxesSo.TheVariants as inBoxes
+use Rattle.state.specs.Boxed.{LeafBoxes}
 use Rattle.state.specs.declared.Stage.{Stage}
 use Rattle.state.specs.declared.Stage.TheVariants as stage
 use Rattle.state.specs.Flow.{Flow, Left, left, with_now, listed}
@@ -227,7 +226,7 @@ module _ (top : Top) where
         ∙ after_cong (inner_d top slot (depth ls) f n (b ∷ bs)) _ _ (λ x g m cs e. deeper slot f n (b ∷ bs) x g m cs e)
         ∙ sym (after_assoc (inner_d top slot (depth ls) f n (b ∷ bs)) (λ x g m cs. inner (suc (depth ls)) (inner_level x slot) g m cs) next)
     slot_run false slot f n b bs =
-        in_leaf top (took_entry ls) slot (suc n) bs (step_leaf top.id slot (leafBox.Head (leaf_so0 f.last) at.First) f n b)
+        in_leaf top (took_entry ls) slot (suc n) bs (step_leaf top.id slot (inBoxes.Head (leaf_so0 f.last) at.First) f n b)
         ∙ ap (λ (r : Res Seen Flow Left). after r (λ seen g m cs. next tt (listed g (leaf_record slot g.now seen.first) slot.until seen.last) m cs))
         (sym (leaf_run top.id slot f n (b ∷ bs)))
         ∙ sym (after_assoc (leaf_d top.id slot f n (b ∷ bs)) (λ seen g m cs. okay tt (listed g (leaf_record slot g.now seen.first) slot.until seen.last) m cs) next)
@@ -286,5 +285,5 @@ pub segment_run : (brand : ℕ) (f : Flow) (n : ℕ) (bs : List ℕ) → segment
 unfolding segment_d cont_by lift
 segment_run brand f n bs =
     ap (λ (r : Res IndexRead Flow Left). after r (λ x g m cs. material_d x g m cs)) (opening_run brand f n bs)
-    ∙ after_cong (run left (step_opening brand) (openings.Head false at.First) f n bs) _ _ (λ x g m cs e. sym (material_run x g m cs))
-    ∙ sym (in_opening brand n bs (go (openings.Head false at.First) f))
+    ∙ after_cong (run left (step_opening brand) (inBoxes.Head false at.First) f n bs) _ _ (λ x g m cs e. sym (material_run x g m cs))
+    ∙ sym (in_opening brand n bs (go (inBoxes.Head false at.First) f))

@@ -24,7 +24,7 @@ use Rattle.state.specs.declared.Levels.TheVariants as levels
 use Rattle.state.specs.declared.Slot.{Slot}
 use Rattle.state.specs.declared.IndexRead.{IndexRead}
 use Rattle.state.specs.declared.StoredEntry.{StoredEntry}
-use Rattle.state.specs.declared.LeafBoxes.TheVariants as leafBox
+use Rattle.machine.specs.declared.BoxesSo.TheVariants as inBoxes
 use Rattle.state.specs.declared.Stage.{Stage}
 use Rattle.state.specs.declared.Stage.TheVariants as stage
 use Rattle.state.specs.Flow.{Flow, Left, left, listed}
@@ -54,10 +54,10 @@ module _ (top : Top) (ls : Levels) (f : Flow) (n : ℕ) where
   module _ (sound : entry_faults (inmost ls) stored f.now n ≡ []) where
     -- its first byte is the first of its leaf, or of its inner index
     leaf_first : stored.inner ≡ false → (b : ℕ) (bs : List ℕ) → n < limit →
-        step_all before (b ∷ bs) ≡ step_all (reading n (stage.Leaf top (took_entry ls) slot (leafBox.Head (leaf_so0 f.last) at.First)) f) (b ∷ bs)
+        step_all before (b ∷ bs) ≡ step_all (reading n (stage.Leaf top (took_entry ls) slot (inBoxes.Head (leaf_so0 f.last) at.First)) f) (b ∷ bs)
     unfolding step_all step_stage step_entry step_slot unless
     leaf_first leaf b bs low =
-        rw (step_below (stage.Entry top ls) f n b low, step_below (stage.Leaf top (took_entry ls) slot (leafBox.Head (leaf_so0 f.last) at.First)) f n b low, sound, leaf) refl
+        rw (step_below (stage.Entry top ls) f n b low, step_below (stage.Leaf top (took_entry ls) slot (inBoxes.Head (leaf_so0 f.last) at.First)) f n b low, sound, leaf) refl
 
     inner_first : stored.inner ≡ true → (b : ℕ) (bs : List ℕ) → n < limit →
         step_all before (b ∷ bs) ≡ step_all (reading n (stage.Inner top (took_entry ls) slot (wrap_inner (in_head at.First))) f) (b ∷ bs)
@@ -75,7 +75,7 @@ module _ (top : Top) (ls : Levels) (f : Flow) (n : ℕ) where
         step_all before (take (m - n) bs) ≡ settle m (follow top (took_entry ls) (listed g (leaf_record slot g.now seen.first) slot.until seen.last))
     unfolding step_stage
     leaf_passed leaf bs seen g m cs e low =
-        let start = leafBox.Head (leaf_so0 f.last) at.First in
+        let start = inBoxes.Head (leaf_so0 f.last) at.First in
         let ran = sym (leaf_run top.id slot f n bs) ∙ e in
         let all = consumed_run left (step_leaf top.id slot) start f n bs seen g m cs ran in
         let fewer = shrink_run left (step_leaf top.id slot) start f n bs seen g m cs ran in
@@ -145,7 +145,7 @@ module _ (top : Top) (ls : Levels) (f : Flow) (n : ℕ) (g : Flow) (m : ℕ) (cs
       let b : k ≡ m = cc in
       let d : ds ≡ cs = cc in
       let slot' = slot_of e f.now n in
-      let start = leafBox.Head (leaf_so0 f.last) at.First in
+      let start = inBoxes.Head (leaf_so0 f.last) at.First in
       let ran = sym (leaf_run top.id slot' f n bs) ∙ read in
       let all = consumed_run left (step_leaf top.id slot') start f n bs seen h k ds ran in
       let fewer = shrink_run left (step_leaf top.id slot') start f n bs seen h k ds ran in

@@ -8,13 +8,11 @@ use lib.ListN.{length, take, drop, get_or, take-append-drop, length-drop}
 use lib.Seq.{take-add, length-take-le, drop-drop, drop-cons}
 use Rattle.basics.specs.Bytes.{AllBytes}
 use Rattle.basics.proofs.Bytes.{each_byte_all, bytes_first, all_drop}
-use Rattle.basics.specs.Choose.{pick}
 use Rattle.segment.specs.Constants.{limit}
 use Rattle.machine.specs.Run.{Sub, go, done, bad}
-use Rattle.machine.proofs.Kept.{Kept}
 use Rattle.state.specs.declared.Seen.{Seen}
 use Rattle.state.specs.declared.Slot.{Slot}
-use Rattle.state.specs.declared.LeafBoxes.{LeafBoxes}
+use Rattle.state.specs.Boxed.{LeafBoxes}
 use Rattle.state.specs.Flow.{Flow, Left}
 use Rattle.state.specs.Jump.{leaf_skips, least}
 use Rattle.state.specs.Leaf.{step_leaf}
@@ -23,14 +21,15 @@ use Rattle.state.specs.Rows.{no_room}
 use Rattle.state.proofs.Jump.{leaf_stays, least_first, least_second}
 use Rattle.state.proofs.RangeKept.{Flows, KeptIn}
 use Rattle.state.proofs.RangeLeaf.{Roomy, step_leaf_lem}
-use Rattle.leaf.specs.Leaf.{view_leaf}
-use Rattle.leaf.specs.declared.LeafStep.{LeafStep}
-use Rattle.leaf.specs.declared.LeafStep.TheVariants as steps
-use Rattle.leaf.proofs.Rooms.{roomy, roomy_is}
+use Rattle.std.specs.Prelude.{Result, Ok}
+use Rattle.machine.specs.declared.Refusal.{Refusal}
+use Rattle.machine.specs.declared.Step.{Step}
+use Rattle.machine.specs.declared.Step.TheVariants as steps
+use Rattle.state.specs.Views.{view}
+use Rattle.leaf.specs.Rooms.{roomy, roomy_is}
 use Rattle.law_leap.specs.Over.{on_by, over}
 use Rattle.law_leap.proofs.Over.{over_then, over_still}
-use Rattle.leap_leaf.specs.declared.Turn.{Turn}
-use Rattle.leap_leaf.specs.Goes.{Goes, From, Turned}
+use Rattle.leap_leaf.specs.Goes.{Goes, From}
 
 -- bytes from one place up to another, and on to a third
 pub taken_on : (i j k : ℕ) (bs : List ℕ) → i ≤ j → j ≤ k → take (k - i) (drop i bs) ≡ take (j - i) (drop i bs) ++ take (k - j) (drop j bs)
@@ -100,15 +99,15 @@ module _ (id : ℕ) (slot : Slot) (full : Bool) (n : ℕ) (bs : List ℕ) where
       }
 
   -- one byte
-  pub from_byte : (s t : LeafBoxes) (i : ℕ) (r : LeafStep) → i < length bs →
-      ((f : Flow) → no_room f.leaves f.table ≡ full → view_leaf f r ≡ step_leaf id slot s f (n + i) (get_or bs i 0)) → r ≡ steps.Go t → From id slot full n bs s i t (i + 1)
+  pub from_byte : (s t : LeafBoxes) (i : ℕ) (r : Result (Step LeafBoxes Seen) Refusal) → i < length bs →
+      ((f : Flow) → no_room f.leaves f.table ≡ full → view f r ≡ step_leaf id slot s f (n + i) (get_or bs i 0)) → r ≡ Ok (steps.Going t) → From id slot full n bs s i t (i + 1)
   unfolding over on_by
-  from_byte s t i r h view e =
+  from_byte s t i r h told e =
       let z : i + 1 - i ≡ 1 = omega arith in
       record {
         later = omega arith;
         there = omega (arith, h);
-        goes = λ f room. rw (z, drop-cons bs i 0 h) (let one : step_leaf id slot s f (n + i) (get_or bs i 0) ≡ go t f = sym (view f room) ∙ ap (view_leaf f) e in rw one refl);
+        goes = λ f room. rw (z, drop-cons bs i 0 h) (let one : step_leaf id slot s f (n + i) (get_or bs i 0) ≡ go t f = sym (told f room) ∙ ap (λ q. view f q) e in rw one refl);
       }
 
   -- what the bytes lead to is in its ranges
@@ -119,27 +118,6 @@ module _ (id : ℕ) (slot : Slot) (full : Bool) (n : ℕ) (bs : List ℕ) where
       let all : AllBytes xs = bytes_first xs (drop (j - i) (drop i bs)) (rw (take-append-drop (j - i) (drop i bs)) (all_drop i bs (each_byte_all bs bytes))) in
       goes_within id slot full s (n + i) xs t all (omega (arith, low, l, p.later, p.there)) w p.goes
 
--- A turn, from the i-th byte on.
-module _ (id : ℕ) (slot : Slot) (full : Bool) (n : ℕ) (bs : List ℕ) (s : LeafBoxes) (i : ℕ) (bytes : (j : ℕ) → get_or bs j 0 < 256) (low : n + length bs ≤ limit)
-    (w : Within (leaf_bounds s)) where
-  -- it takes no byte by itself
-  pub turn_stops : (t : LeafBoxes) (j : ℕ) → From id slot full n bs s i t j → Turned id slot full n bs s i (record { boxes = t; at = j; going = false })
-  turn_stops t j p = record { on = p; within = from_within id slot full n bs bytes low s t i j w p; took = λ e. let z : ◌≡◌ {A = ℕ} 0 1 = cc in absurd (omega arith) }
-
-  -- it takes one
-  pub turn_goes : (t u : LeafBoxes) (j : ℕ) (r : LeafStep) → From id slot full n bs s i t j → j < length bs →
-      ((f : Flow) → no_room f.leaves f.table ≡ full → view_leaf f r ≡ step_leaf id slot t f (n + j) (get_or bs j 0)) → r ≡ steps.Go u →
-      Turned id slot full n bs s i (record { boxes = u; at = j + 1; going = true })
-  turn_goes t u j r p h view e =
-      let all = from_then id slot full n bs s t u i j (j + 1) p (from_byte id slot full n bs t u j r h view e) in
-      record { on = all; within = from_within id slot full n bs bytes low s u i (j + 1) w all; took = λ g. omega (arith, p.later) }
-
 -- from the first byte on
 pub from_first : (id : ℕ) (slot : Slot) (full : Bool) (n : ℕ) (bs : List ℕ) (s t : LeafBoxes) (j : ℕ) → From id slot full n bs s 0 t j → Goes id slot full s n (take j bs) t
 from_first id slot full n bs s t j p f room = let a : n + 0 ≡ n = omega arith in let b : j - 0 ≡ j = omega arith in rw (a, b) at (p.goes f room)
-
--- a turn that another one follows leaves fewer bytes
-pub turn_less : (going : Bool) (i j most : ℕ) → j ≤ most → (going ≡ true → i < j) → pick going (suc (most - j)) 0 < suc (most - i)
-unfolding pick
-turn_less true i j most h later = let g : i < j = later refl in omega (arith, h, g)
-turn_less false i j most h later = omega arith

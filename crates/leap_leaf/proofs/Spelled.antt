@@ -7,20 +7,19 @@ use mathlib.Core.Option.{none}
 use native.Mathlib.Omega.{arith}
 use lib.ListN.{length, take, drop, length-drop}
 use lib.Seq.{length-take-le}
+use Rattle.std.specs.Prelude.{slice_range}
 use Rattle.basics.specs.Bytes.{number_from}
 use Rattle.machine.specs.Run.{Sub, go}
 use Rattle.machine.specs.declared.Head.{Head}
 use Rattle.machine.specs.declared.Head.TheVariants as at
 use Rattle.state.specs.declared.Slot.{Slot}
 use Rattle.state.specs.declared.TrafBody.TheVariants as trafs
-use Rattle.state.specs.declared.TrafBoxes.{TrafBoxes}
-use Rattle.state.specs.declared.TrafBoxes.TheVariants as trafBox
+use Rattle.state.specs.Boxed.{TrafBoxes}
+use Rattle.machine.specs.declared.BoxesSo.TheVariants as inBoxes
 use Rattle.state.specs.declared.MoofBody.TheVariants as moofs
-use Rattle.state.specs.declared.MoofBoxes.{MoofBoxes}
-use Rattle.state.specs.declared.MoofBoxes.TheVariants as moofBox
+use Rattle.state.specs.Boxed.{MoofBoxes}
 use Rattle.state.specs.declared.LeafBody.TheVariants as leaves
-use Rattle.state.specs.declared.LeafBoxes.{LeafBoxes}
-use Rattle.state.specs.declared.LeafBoxes.TheVariants as leafBox
+use Rattle.state.specs.Boxed.{LeafBoxes}
 use Rattle.state.specs.Flow.{Flow, Left}
 use Rattle.state.specs.Jump.{least}
 use Rattle.state.specs.Leaf.{step_leaf}
@@ -54,22 +53,22 @@ head_nowhere (at.Large pos kind more acc) = refl
 
 traf_nowhere : (s : TrafBoxes) → (traf_number s).place ≡ none
 unfolding traf_number traf_body_number
-traf_nowhere (trafBox.Head so h) = head_nowhere h
-traf_nowhere (trafBox.Body so (trafs.Skip stop)) = refl
-traf_nowhere (trafBox.Body so (trafs.Rest stop r)) = refl
-traf_nowhere (trafBox.Body so (trafs.Field p more acc)) = refl
+traf_nowhere (inBoxes.Head so h) = head_nowhere h
+traf_nowhere (inBoxes.Body so (trafs.Skip stop)) = refl
+traf_nowhere (inBoxes.Body so (trafs.Rest stop r)) = refl
+traf_nowhere (inBoxes.Body so (trafs.Field p more acc)) = refl
 
 moof_nowhere : (s : MoofBoxes) → (moof_number s).place ≡ none
 unfolding moof_number moof_body_number
-moof_nowhere (moofBox.Head seen h) = head_nowhere h
-moof_nowhere (moofBox.Body seen (moofs.Skip stop)) = refl
-moof_nowhere (moofBox.Body seen (moofs.Traf span s)) = traf_nowhere s
+moof_nowhere (inBoxes.Head seen h) = head_nowhere h
+moof_nowhere (inBoxes.Body seen (moofs.Skip stop)) = refl
+moof_nowhere (inBoxes.Body seen (moofs.Traf span s)) = traf_nowhere s
 
 leaf_nowhere : (s : LeafBoxes) → (leaf_number s).place ≡ none
 unfolding leaf_number leaf_body_number
-leaf_nowhere (leafBox.Head so h) = head_nowhere h
-leaf_nowhere (leafBox.Body so (leaves.Skip stop)) = refl
-leaf_nowhere (leafBox.Body so (leaves.Moof end s)) = moof_nowhere s
+leaf_nowhere (inBoxes.Head so h) = head_nowhere h
+leaf_nowhere (inBoxes.Body so (leaves.Skip stop)) = refl
+leaf_nowhere (inBoxes.Body so (leaves.Moof end s)) = moof_nowhere s
 
 module _ (s : LeafBoxes) (bs : List ℕ) (i k : ℕ) (e : k ≡ least (leaf_number s).more (length bs - i)) where
   -- they are there, and so many at the most
@@ -106,3 +105,10 @@ module _ (s : LeafBoxes) (bs : List ℕ) (i k : ℕ) (e : k ≡ least (leaf_numb
   pub from_told : (x : AtHand) → x ≡ at_hand_of (leaf_number s) → 0 < x.more → (id : ℕ) (slot : Slot) (full : Bool) (n acc : ℕ) (r : LeafBoxes) → i ≤ length bs →
       acc ≡ number_from x.acc (take k (drop i bs)) → r ≡ (leaf_number s).again (x.more - k) acc → From id slot full n bs s i r (i + k)
   from_told x ex going id slot full n acc r h ea er = from_spelled id slot full n r h (rw ex at going) (rw (er, ea, ex) refl)
+
+-- a part of the bytes, as they are taken
+pub taken_part : (bs : List ℕ) (i k : ℕ) → slice_range bs i (i + k) ≡ take k (drop i bs)
+taken_part bs i k = let e : i + k - i ≡ k = omega arith in rw e
+
+pub length_taken : (bs : List ℕ) (i k : ℕ) → i + k ≤ length bs → length (slice_range bs i (i + k)) ≡ k
+length_taken bs i k h = ap length (taken_part bs i k) ∙ length-take-le k (drop i bs) (simp length-drop (omega (arith, h)))

@@ -1,14 +1,12 @@
 -- What it is for a leaf to go on with bytes.
-use Rattle.std.specs.Prelude.{ℕ, ◌+◌, ◌-◌, ◌≤◌, ◌<◌, ◌≡◌, List, Bool, true, length, take, drop}
+use Rattle.std.specs.Prelude.{ℕ, ◌+◌, ◌-◌, ◌≤◌, ◌≡◌, List, Bool, length, take, drop}
 use Rattle.machine.specs.Run.{go}
 use Rattle.state.specs.declared.Slot.{Slot}
-use Rattle.state.specs.declared.LeafBoxes.{LeafBoxes}
+use Rattle.state.specs.Boxed.{LeafBoxes}
 use Rattle.state.specs.Flow.{Flow}
 use Rattle.state.specs.Leaf.{step_leaf}
-use Rattle.state.specs.Ranges.{Within, leaf_bounds}
 use Rattle.state.specs.Rows.{no_room}
 use Rattle.law_leap.specs.Over.{over}
-use Rattle.leap_leaf.specs.declared.Turn.{Turn}
 
 module _ (id : ℕ) (slot : Slot) (full : Bool) where
   -- The bytes, of which `n` stand before them, take a leaf from the boxes s to the boxes t, whatever flows beside it, as long as its table is full or
@@ -21,9 +19,3 @@ module _ (id : ℕ) (slot : Slot) (full : Bool) where
     pub later : i ≤ j
     pub there : j ≤ length bs
     pub goes : Goes s (n + i) (take (j - i) (drop i bs)) t
-
-  -- a turn, which takes a byte where another one follows
-  pub record Turned (n : ℕ) (bs : List ℕ) (s : LeafBoxes) (i : ℕ) (r : Turn) : Type 0 where
-    pub on : From n bs s i r.boxes r.at
-    pub within : Within (leaf_bounds r.boxes)
-    pub took : r.going ≡ true → i < r.at

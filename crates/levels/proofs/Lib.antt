@@ -1,4 +1,5 @@
 pub mod Sums
 pub mod Places
+pub mod Closed
 pub mod Chosen
 pub mod OneOutcome

@@ -1,11 +1,12 @@
 -- The contracts of the functions that other crates call, as the check reads them: two outcomes that each allows coincide, and those that require nothing ask nothing.
-use mathlib.Core.Path.{◌≡◌, refl, sym, ap, ◌∙◌}
+use mathlib.Core.Path.{◌≡◌, refl, sym, ◌∙◌}
 use mathlib.Core.Option.{Option, some, none}
+use Rattle.std.specs.Prelude.{Some, None}
+use Rattle.std.specs.Prelude as code
+use Rattle.basics.proofs.Outcomes.{left_inverse_equal}
 use Rattle.basics.specs.Outcome.{OneOutcome, Coincide}
 use Rattle.state.specs.declared.Levels.{Levels}
 use Rattle.levels.specs.Views.{open_of}
-use Rattle.levels.specs.declared.Still.{Still}
-use Rattle.levels.specs.declared.Still.TheVariants as still
 use Rattle.levels.proofs.entry_at.Kinds as entry-at-kinds
 use Rattle.levels.proofs.entry_at.Reads as entry-at-stated
 use Rattle.levels.proofs.entry_answer.Kinds as entry-answer-kinds
@@ -57,19 +58,19 @@ push_once = record {
 }
 
 -- what the code answers, from what it says in the definitions' own types
-abbrev still_of : Option Levels → Still
-still_of (some ls) = still.Open ls
-still_of none = still.Closed
+abbrev open_again : Option Levels → code.Option Levels
+open_again (some ls) = Some ls
+open_again none = None
 
-still_again : (s : Still) → still_of (open_of s) ≡ s
-still_again (still.Open ls) = refl
-still_again still.Closed = refl
+open_again_lem : (r : code.Option Levels) → open_again (open_of r) ≡ r
+open_again_lem (Some ls) = refl
+open_again_lem None = refl
 
 -- of the open indexes: one answer, which of them stay open
 pub still_open_once : OneOutcome 0 still-open-kinds.ps still-open-kinds.r still-open-stated.Pre still-open-stated.Post
 still_open_once = record {
   asks_nothing = λ κs given. tt;
-  outcomes_coincide = λ κs given r r' left left' p q. (sym (still_again r) ∙ ap still_of (p ∙ sym q) ∙ still_again r', refl);
+  outcomes_coincide = λ κs given r r' left left' p q. (left_inverse_equal open_again (open_again_lem r) (open_again_lem r') (p ∙ sym q), refl);
 }
 
 -- of one work area, the open indexes, a time and a byte count: one answer

@@ -1,29 +1,19 @@
 // Entries read back from the work area, and the indexes that stand open: what the stages of a reading share.
-#![tactic(auto)]
+#![tactic(auto, unfolding(
+// the open indexes
+basics::specs::Choose::pick, state::specs::Levels::inmost, state::specs::Levels::depth, state::specs::Levels::push, crate::specs::Views::around,
+// an entry that is taken
+state::specs::Levels::took_entry))]
 
 ghost use Rattle.std.specs.Prelude.{◌≡◌, ◌+◌, ◌-◌, ◌*◌, ◌<◌, ◌≤◌, length};
 ghost use Rattle.segment.specs.Constants.{limit, most_entries, time_limit, type_bit};
 ghost use Rattle.state.specs.Flow.{work_bytes};
 ghost use Rattle.state.specs.Levels as defs;
 ghost use Rattle.state.specs.Ranges.{Within, levels_bounds};
-ghost use Rattle.levels.specs.Views.{read_of, open_of, still_four};
+ghost use Rattle.levels.specs.Views.{around, open_of, read_of};
 
 use fields::word_at;
 use state::{ENTRY_BYTES, LEVEL_BYTES, Level, Levels, Slot, StoredEntry, TYPE_BIT};
-
-// An entry that was read back: whether it is an index entry and where it stands, or that it was altered between calls.
-#[derive(Clone, Copy)]
-pub enum EntryRead {
-    Stands(bool, Slot),
-    Altered,
-}
-
-// The indexes that still have an entry to come, or none.
-#[derive(Clone, Copy)]
-pub enum Still {
-    Open(Levels),
-    Closed,
-}
 
 // The entry that stands in the work area from a place on.
 pub fn entry_at(work: &[u8], i: usize) -> StoredEntry
@@ -36,12 +26,12 @@ pub fn entry_at(work: &[u8], i: usize) -> StoredEntry
     StoredEntry {
         inner: TYPE_BIT <= first,
         size: first % TYPE_BIT,
-        duration: duration,
-        sap: sap,
+        duration,
+        sap,
     }
 }
 
-// The innermost open index.
+// The innermost open index. `Levels` is no array with a count beside it: the definitions (`state`, specs `Levels`) and the packed state go by its four cases.
 pub fn inmost(ls: Levels) -> Level
     ensures { result ≡ defs.inmost ls }
 {
@@ -59,9 +49,9 @@ pub fn depth(ls: Levels) -> u64
 {
     match ls {
         Levels::One(_) => 1,
-        Levels::Two(_, _) => 2,
-        Levels::Three(_, _, _) => 3,
-        Levels::Four(_, _, _, _) => 4,
+        Levels::Two(..) => 2,
+        Levels::Three(..) => 3,
+        Levels::Four(..) => 4,
     }
 }
 
@@ -90,9 +80,7 @@ fn took(l: Level) -> Level
 {
     Level {
         next: l.next + 1,
-        count: l.count,
-        end: l.end,
-        until: l.until,
+        ..l
     }
 }
 
@@ -117,77 +105,54 @@ pub fn push(ls: Levels, l: Level) -> Levels
         Levels::One(a) => Levels::Two(a, l),
         Levels::Two(a, b) => Levels::Three(a, b, l),
         Levels::Three(a, b, c) => Levels::Four(a, b, c, l),
-        Levels::Four(a, b, c, d) => Levels::Four(a, b, c, d),
+        Levels::Four(..) => ls,
     }
 }
 
-fn still_one(a: Level) -> Still
-    ensures { open_of result ≡ defs.still_one a }
-{
-    if a.next == a.count {
-        return Still::Closed;
-    }
-    Still::Open(Levels::One(a))
-}
-
-fn still_two(a: Level, b: Level) -> Still
-    ensures { open_of result ≡ defs.still_two a b }
-{
-    if b.next == b.count {
-        return still_one(a);
-    }
-    Still::Open(Levels::Two(a, b))
-}
-
-fn still_three(a: Level, b: Level, c: Level) -> Still
-    ensures { open_of result ≡ defs.still_three a b c }
-{
-    if c.next == c.count {
-        return still_two(a, b);
-    }
-    Still::Open(Levels::Three(a, b, c))
-}
-
-fn still_four(a: Level, b: Level, c: Level, d: Level) -> Still
-    ensures { open_of result ≡ still_four a b c d }
-{
-    if d.next == d.count {
-        return still_three(a, b, c);
-    }
-    Still::Open(Levels::Four(a, b, c, d))
-}
-
-// The indexes that have no entry left are closed, from the innermost on.
-pub fn still_open(ls: Levels) -> Still
-    ensures { open_of result ≡ defs.still_open ls }
+// The indexes around the innermost one.
+fn around(ls: Levels) -> Option<Levels>
+    ensures { result ≡ around ls }
 {
     match ls {
-        Levels::One(a) => still_one(a),
-        Levels::Two(a, b) => still_two(a, b),
-        Levels::Three(a, b, c) => still_three(a, b, c),
-        Levels::Four(a, b, c, d) => still_four(a, b, c, d),
+        Levels::One(_) => None,
+        Levels::Two(a, _) => Some(Levels::One(a)),
+        Levels::Three(a, b, _) => Some(Levels::Two(a, b)),
+        Levels::Four(a, b, c, _) => Some(Levels::Three(a, b, c)),
     }
+}
+
+// An index has no entry left.
+fn passed_all(l: Level) -> bool
+    ensures { result ≡ defs.passed_all l }
+{
+    l.next == l.count
+}
+
+// The indexes that still have an entry to come: those that have none left are closed, from the innermost on.
+pub fn still_open(ls: Levels) -> Option<Levels>
+    ensures { open_of result ≡ defs.still_open ls }
+{
+    let mut open = ls;
+    while passed_all(inmost(open)) {
+        open = around(open)?;
+    }
+    Some(open)
 }
 
 // Whether an entry read back at byte `n`, when the time line stands at `at`, cannot be what its index stored. When it ends is a sum
 // that may pass a word's range, so that its duration is compared with the time that remains.
+#[tactic(auto, using(crate::proofs::Sums::altered_tests), unfolding(basics::specs::Choose::pick))]
 fn altered(l: Level, e: StoredEntry, at: u64, n: u64) -> bool
     requires { (l.next < l.count) × (at ≤ l.until) × (n ≤ limit) × (e.size < type_bit) }
     ensures { result ≡ defs.altered l e at n }
 {
-    if e.size == 0 {
-        return true;
-    }
     let time = l.until - at;
-    if time < e.duration {
+    let end = n + e.size;
+    if e.size == 0 || time < e.duration {
         return true;
     }
-    let end = n + e.size;
     if l.next + 1 == l.count {
-        if end != l.end {
-            return true;
-        }
-        return e.duration != time;
+        return end != l.end || e.duration != time;
     }
     l.end <= end
 }
@@ -205,19 +170,20 @@ fn slot_of(e: StoredEntry, at: u64, n: u64) -> Slot
     }
 }
 
-// What an entry read back at byte `n`, when the time line stands at `at`, comes to.
-pub fn entry_answer(l: Level, e: StoredEntry, at: u64, n: u64) -> EntryRead
+// What an entry read back at byte `n`, when the time line stands at `at`, comes to: whether it is an index entry, and where it stands;
+// none where it was altered between calls.
+pub fn entry_answer(l: Level, e: StoredEntry, at: u64, n: u64) -> Option<(bool, Slot)>
     requires { (l.next < l.count) × (at ≤ l.until) × (n ≤ limit) × (e.size < type_bit) }
     ensures { result ≡ read_of l e at n }
 {
     if altered(l, e, at, n) {
-        return EntryRead::Altered;
+        return None;
     }
-    EntryRead::Stands(e.inner, slot_of(e, at, n))
+    Some((e.inner, slot_of(e, at, n)))
 }
 
 // The next entry of the innermost index, read back at byte `n`, when the time line stands at `at`.
-pub fn read_back(work: &[u8], ls: Levels, at: u64, n: u64) -> EntryRead
+pub fn read_back(work: &[u8], ls: Levels, at: u64, n: u64) -> Option<(bool, Slot)>
     requires { (work_bytes ≤ length work.now) × Within (levels_bounds ls) × ((defs.inmost ls).next < (defs.inmost ls).count) × (at ≤ (defs.inmost ls).until) × (n ≤ limit) }
     ensures { result ≡ read_of (defs.inmost ls) (defs.entry_at work.now (defs.entry_place ls)) at n }
 {

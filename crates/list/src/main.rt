@@ -5,7 +5,8 @@ ghost use Rattle.std.specs.Prelude.{◌≡◌, ◌<◌, length};
 
 use feed::{feed, finish, start};
 use listing::{Line, heading, table_line};
-use state::{FinishAnswer, State};
+use machine::Refusal;
+use state::State;
 use std::io;
 use std::io::Read;
 use table::NUMBERS;
@@ -16,123 +17,83 @@ const TURNS: u64 = 268435458;
 
 const LINE_END: u8 = 10;
 
-// As much as is read at once.
-fn part_buffer() -> [u8; 65536]
-    ensures { 65536 ≡ length result }
+// A buffer of zeros: a contract that says only its length keeps what it holds out of the proof of `main`.
+fn zeros<T: Copy + Default, const N: usize>() -> [T; N]
+    ensures { N ≡ length result }
 {
-    [0; 65536]
+    [T::default(); N]
 }
 
-// Four levels of 12,288 bytes.
-fn work_area() -> [u8; 49152]
-    ensures { 49152 ≡ length result }
-{
-    [0; 49152]
-}
-
-// Room for 256 leaves.
-fn leaf_table() -> [u64; 1536]
-    ensures { 1536 ≡ length result }
-{
-    [0; 1536]
-}
-
-// What was read so far: the state, and whether to read on.
-#[derive(Clone, Copy)]
-struct Reading {
-    state: State,
-    open: bool,
-}
-
-// One read, and a feed of what it gave: after a refusal, which is kept, the rest is read too, and passes at once.
+// One read, and a feed of what it gave: the state after it, or none where the input ended. After a refusal, which is kept, the rest is
+// read too, and passes at once.
 fn read_part(
     input: &mut impl Read,
     s: State,
     part: &mut [u8],
     work: &mut [u8],
     table: &mut [u64],
-) -> io::Result<Reading> {
+) -> io::Result<Option<State>> {
     let n = input.read(part)?;
     if n == 0 {
-        return Ok(Reading {
-            state: s,
-            open: false,
-        });
+        return Ok(None);
     }
     let fed = feed(s, &part[..n], work, table);
-    let state = fed.state;
-    Ok(Reading { state, open: true })
+    Ok(Some(fed.state))
 }
 
-// A proved loop has to end, and nothing says that the input does: so the turns are counted down.
+// A proved loop has to end, and nothing says that the input does: so the turns are counted.
 fn read_segment(
     input: &mut impl Read,
     part: &mut [u8],
     work: &mut [u8],
     table: &mut [u64],
 ) -> io::Result<State> {
-    let mut r = Reading {
-        state: start(*b"msdh"),
-        open: true,
-    };
-    let mut turns = TURNS;
-    while turns > 0 && r.open {
-        let s = r.state;
-        r = read_part(input, s, part, work, table)?;
-        turns -= 1;
+    let mut s = start(*b"msdh");
+    for _ in 0..TURNS {
+        let Some(next) = read_part(input, s, part, work, table)? else {
+            break;
+        };
+        s = next;
     }
-    Ok(r.state)
+    Ok(s)
 }
 
-// A text of so many bytes and a line's end, by one write.
-fn print_text(rt: &impl Print, bytes: [u8; 192], at: usize) -> io::Result<()>
-    requires { at < 192 }
-{
-    let mut text = bytes;
-    text[at] = LINE_END;
-    rt.write_all(&text[..at + 1])
-}
-
+// A line's text and its end, by one write.
 fn print_line(rt: &impl Print, line: Line) -> io::Result<()>
     requires { line.length < 192 }
 {
-    let text = line.bytes;
-    let at = line.length;
-    print_text(rt, text, at)
+    let mut text = line.bytes;
+    text[line.length] = LINE_END;
+    rt.write_all(&text[..line.length + 1])
 }
 
 // The table holds every leaf that was counted, since one beyond the room is refused.
 fn print_leaves(rt: &impl Print, leaves: u64, table: &[u64]) -> io::Result<()> {
     let held = table.len() / NUMBERS;
-    let mut i: usize = 0;
-    while i < held && (i as u64) < leaves {
+    for i in 0..held.min(leaves as usize) {
         print_line(rt, table_line(table, i))?;
-        i += 1;
     }
     Ok(())
 }
 
-fn print_listing(rt: &impl Print, answer: FinishAnswer, table: &[u64]) -> io::Result<()> {
+fn print_listing(rt: &impl Print, answer: Result<u64, Refusal>, table: &[u64]) -> io::Result<()> {
     print_line(rt, heading(answer))?;
-    if let FinishAnswer::Listed(leaves) = answer {
+    if let Ok(leaves) = answer {
         return print_leaves(rt, leaves, table);
     }
     Ok(())
 }
 
-// A read that fails says nothing of the segment: it is told on standard error, and nothing is listed.
+// As much as is read at once, four levels of 12,288 bytes, and room for 256 leaves. A read that fails says nothing of the segment: it is
+// told on standard error, and nothing is listed.
 fn main(rt: HostRuntime) -> io::Result<()> {
-    let mut part = part_buffer();
-    let mut work = work_area();
-    let mut table = leaf_table();
+    let mut part = zeros::<u8, 65536>();
+    let mut work = zeros::<u8, 49152>();
+    let mut table = zeros::<u64, 1536>();
     let s = match read_segment(&mut rt.stdin(), &mut part, &mut work, &mut table) {
         Ok(s) => s,
         Err(e) => return eprintln!(rt; "standard input: {e}"),
     };
     let finished = finish(s);
-    let answer = finished.answer;
-    match print_listing(&rt, answer, &table) {
-        Ok(()) => Ok(()),
-        Err(e) => eprintln!(rt; "standard output: {e}"),
-    }
+    print_listing(&rt, finished.answer, &table).or_else(|e| eprintln!(rt; "standard output: {e}"))
 }

@@ -1,4 +1,6 @@
 -- Texts put together: what a line holds after a text is added at its end.
+use Rattle.std.specs.Prelude.{ℕ, Result, Ok, Err}
+use Rattle.machine.specs.declared.Refusal.{Refusal}
 use Prim.Native.Nat.{ℕ, zero, suc, ◌+◌, ◌*◌, ◌-◌, ◌≤◌, ◌<◌, ◌/◌, ◌%◌}
 use mathlib.Core.Path.{◌≡◌, refl, sym, ap, subst, ◌∙◌}
 use mathlib.Core.List.{List, [], ◌∷◌, ◌++◌, append_assoc, append-nil}
@@ -13,8 +15,6 @@ use Rattle.basics.specs.Choose.{pick}
 use Rattle.basics.proofs.Picks.{pick_yes, pick_no, pick_holds}
 use Rattle.table.specs.Table.{record_numbers, numbers_of, record_at}
 use Rattle.table.specs.declared.Record.{Record}
-use Rattle.state.specs.declared.FinishAnswer.{FinishAnswer}
-use Rattle.state.specs.declared.FinishAnswer.TheVariants.{Listed, Refused}
 use Rattle.listing.specs.Text.{digit, decimal_in, decimal, spaced, heading_text, leaf_text, table_line, line_of, Adds}
 use Rattle.listing.specs.declared.Line.{Line}
 
@@ -113,9 +113,9 @@ pub spaced_next : (ns : List ℕ) (i : ℕ) → i < length ns → spaced (take i
 spaced_next ns i h = sym (spaced_append (take i ns) (get_or ns i 0 ∷ [])) ∙ ap spaced (take_next ns i h)
 
 -- how long the texts of a listing can be
-pub heading_length : (a : FinishAnswer) → length (heading_text a) ≤ 49
-heading_length (Listed leaves) = omega (arith, spaced_length (leaves ∷ []))
-heading_length (Refused r) = omega (arith, spaced_length (r.number ∷ r.place ∷ []))
+pub heading_length : (a : Result ℕ Refusal) → length (heading_text a) ≤ 49
+heading_length (Ok leaves) = omega (arith, spaced_length (leaves ∷ []))
+heading_length (Err r) = omega (arith, spaced_length (r.number ∷ r.place ∷ []))
 
 leaf_length : (leaf : ℕ) (r : Record) → length (leaf_text leaf r) ≤ 146
 leaf_length leaf r = omega (arith, decimal_length 20 leaf, spaced_length (numbers_of r), length-append (decimal leaf) (spaced (numbers_of r)))

@@ -1,12 +1,12 @@
 -- The three lines that document 01 gives for segment S, character by character.
+use Rattle.std.specs.Prelude.{Ok}
 use mathlib.Core.Path.{◌≡◌, refl}
 use mathlib.Core.List.{[], ◌∷◌}
 use Rattle.basics.specs.Choose.{pick}
-use Rattle.state.specs.declared.FinishAnswer.TheVariants.{Listed}
 use Rattle.listing.specs.Text.{decimal_in, spaced, heading_text, leaf_text}
 
 -- `ok 2`
-pub heading_of_s : heading_text (Listed 2) ≡
+pub heading_of_s : heading_text (Ok 2) ≡
     111 ∷ 107 ∷ 32 ∷ 50 ∷ []
 unfolding pick decimal_in spaced
 heading_of_s = refl

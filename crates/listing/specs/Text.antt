@@ -1,11 +1,9 @@
 -- The text of a listing, line by line, in ASCII and without the lines' ends.
-use Rattle.std.specs.Prelude.{ℕ, zero, suc, ◌+◌, ◌-◌, ◌/◌, ◌%◌, ◌≡◌, List, [], ◌∷◌, ◌++◌, ltb, length, replicate}
+use Rattle.std.specs.Prelude.{ℕ, zero, suc, ◌+◌, ◌-◌, ◌/◌, ◌%◌, ◌≡◌, List, [], ◌∷◌, ◌++◌, ltb, length, replicate, Result, Ok, Err}
 use Rattle.basics.specs.Choose.{pick}
 use Rattle.table.specs.Table.{record_numbers, numbers_of, record_at}
 use Rattle.table.specs.declared.Record.{Record}
 use Rattle.machine.specs.declared.Refusal.{Refusal}
-use Rattle.state.specs.declared.FinishAnswer.{FinishAnswer}
-use Rattle.state.specs.declared.FinishAnswer.TheVariants.{Listed, Refused}
 use Rattle.listing.specs.declared.Line.{Line}
 
 -- the character of a digit: `0` is 48
@@ -39,9 +37,9 @@ abbrev pub refused_text : Refusal → List ℕ
 refused_text r = refused_word ++ spaced (r.number ∷ r.place ∷ [])
 
 -- `ok` with the leaf count; or the refusal
-abbrev pub heading_text : FinishAnswer → List ℕ
-heading_text (Listed leaves) = ok_word ++ spaced (leaves ∷ [])
-heading_text (Refused r) = refused_text r
+abbrev pub heading_text : Result ℕ Refusal → List ℕ
+heading_text (Ok leaves) = ok_word ++ spaced (leaves ∷ [])
+heading_text (Err r) = refused_text r
 
 -- leaf number and the six numbers
 abbrev pub leaf_text : ℕ → Record → List ℕ

@@ -7,7 +7,6 @@ ghost use Rattle.listing.specs.Text.{decimal_in, spaced, ok_word, refused_text, 
 
 use machine::Refusal;
 use records::{numbers_of, record_at};
-use state::FinishAnswer;
 use table::{NUMBERS, Record};
 
 // How many digits the largest number of 64 bits has.
@@ -18,102 +17,95 @@ const SPACE: u8 = 32;
 const ZERO: u8 = 48;
 
 // A line without its end: `length` bytes of text, then zeros.
-// The longest is a leaf's: seven numbers of 20 digits, and six spaces.
+// The longest is a leaf's: seven numbers of 20 digits, and six spaces. Fixed memory, no heap: so a length beside the bytes, and no String.
 #[derive(Clone, Copy)]
 pub struct Line {
     pub bytes: [u8; 192],
     pub length: usize,
 }
 
-fn with_byte(line: Line, b: u8) -> Line
-    requires { line.length < 192 }
-    ensures { Adds line (b ∷ []) result }
-{
-    let at = line.length;
-    let mut bytes = line.bytes;
-    bytes[at] = b;
-    Line {
-        bytes,
-        length: at + 1,
+impl Line {
+    // A line that starts with a word.
+    fn starting(word: &[u8]) -> Line
+        requires { length word.now ≤ 7 }
+        ensures { result ≡ line_of word.now }
+    {
+        let mut line = Line {
+            bytes: [0; 192],
+            length: 0,
+        };
+        for &b in word {
+            line = line.with_byte(b);
+        }
+        line
     }
-}
 
-// A line that starts with a word.
-fn starting(word: &[u8]) -> Line
-    requires { length word.now ≤ 7 }
-    ensures { result ≡ line_of word.now }
-{
-    let mut line = Line {
-        bytes: [0; 192],
-        length: 0,
-    };
-    let mut i = 0;
-    while i < word.len() {
-        line = with_byte(line, word[i]);
-        i += 1;
+    fn with_byte(mut self, b: u8) -> Line
+        requires { self.length < 192 }
+        ensures { Adds self (b ∷ []) result }
+    {
+        self.bytes[self.length] = b;
+        self.length += 1;
+        self
     }
-    line
-}
 
-// A number, the most significant digit first, in at most so many digits.
-fn with_decimal(line: Line, n: u64, most: usize) -> Line
-    requires { line.length + most ≤ 192 }
-    ensures { Adds line (decimal_in most n) result }
-{
-    if most == 0 {
-        return line;
+    // A number, the most significant digit first, in at most so many digits. By hand: Display writes to what can refuse, and `heading`,
+    // `leaf_line` and `table_line` can't fail.
+    fn with_decimal(self, n: u64, most: usize) -> Line
+        requires { self.length + most ≤ 192 }
+        ensures { Adds self (decimal_in most n) result }
+    {
+        if most == 0 {
+            return self;
+        }
+        if n < 10 {
+            return self.with_byte(ZERO + n as u8);
+        }
+        let tens = self.with_decimal(n / 10, most - 1);
+        tens.with_byte(ZERO + (n % 10) as u8)
     }
-    if n < 10 {
-        return with_byte(line, ZERO + n as u8);
-    }
-    let tens = with_decimal(line, n / 10, most - 1);
-    with_byte(tens, ZERO + (n % 10) as u8)
-}
 
-// A space and a number.
-fn with_next(line: Line, n: u64) -> Line
-    requires { line.length + 21 ≤ 192 }
-    ensures { Adds line (spaced (n ∷ [])) result }
-{
-    with_decimal(with_byte(line, SPACE), n, DIGITS)
-}
-
-fn with_numbers(line: Line, numbers: &[u64]) -> Line
-    requires { line.length + 21 * length numbers.now ≤ 192 }
-    ensures { Adds line (spaced numbers.now) result }
-{
-    let mut r = line;
-    let mut i = 0;
-    while i < numbers.len() {
-        r = with_next(r, numbers[i]);
-        i += 1;
+    // A space and a number.
+    fn with_next(self, n: u64) -> Line
+        requires { self.length + 21 ≤ 192 }
+        ensures { Adds self (spaced (n ∷ [])) result }
+    {
+        self.with_byte(SPACE).with_decimal(n, DIGITS)
     }
-    r
+
+    fn with_numbers(self, numbers: &[u64]) -> Line
+        requires { self.length + 21 * length numbers.now ≤ 192 }
+        ensures { Adds self (spaced numbers.now) result }
+    {
+        let mut line = self;
+        for &n in numbers {
+            line = line.with_next(n);
+        }
+        line
+    }
 }
 
 // `ok` with the leaf count.
 fn listed_line(leaves: u64) -> Line
     ensures { result ≡ line_of (ok_word ++ spaced (leaves ∷ [])) }
 {
-    let numbers = [leaves];
-    with_numbers(starting(b"ok"), &numbers)
+    Line::starting(b"ok").with_numbers(&[leaves])
 }
 
 // `refused`, number, place.
 pub fn refused_line(r: Refusal) -> Line
     ensures { result ≡ line_of (refused_text r) }
 {
-    let numbers = [r.number, r.place];
-    with_numbers(starting(b"refused"), &numbers)
+    Line::starting(b"refused").with_numbers(&[r.number, r.place])
 }
 
 // The first line of a listing.
-pub fn heading(answer: FinishAnswer) -> Line
+pub fn heading(answer: Result<u64, Refusal>) -> Line
     ensures { result ≡ line_of (heading_text answer) }
 {
     match answer {
-        FinishAnswer::Listed(leaves) => listed_line(leaves),
-        FinishAnswer::Refused(refusal) => refused_line(refusal),
+        Ok(leaves) => listed_line(leaves),
+        Err(refusal) => refused_line(refusal),
     }
 }
 
@@ -121,8 +113,9 @@ pub fn heading(answer: FinishAnswer) -> Line
 pub fn leaf_line(number: u64, leaf: Record) -> Line
     ensures { result ≡ line_of (leaf_text number leaf) }
 {
-    let numbers = numbers_of(leaf);
-    with_numbers(with_decimal(starting(b""), number, DIGITS), &numbers)
+    Line::starting(b"")
+        .with_decimal(number, DIGITS)
+        .with_numbers(&numbers_of(leaf))
 }
 
 // The line of the leaf with so many before it, whose record the leaf table holds.
@@ -139,7 +132,7 @@ pub fn table_line(table: &[u64], i: usize) -> Line
     ensures { result ≡ line_of (table_line table.now i) }
 {
     if table.len() / NUMBERS <= i {
-        return starting(b"");
+        return Line::starting(b"");
     }
     leaf_at(table, i)
 }

@@ -1,19 +1,18 @@
 -- The contracts of `lookup` and `look_accepted` themselves, as the check reads them: each asks nothing, and two outcomes that it allows coincide.
-use Prim.Native.Nat.{ℕ, ◌+◌, ◌*◌, ◌/◌}
+use Rattle.std.specs.Prelude.{Result, Ok, Err}
+use Rattle.machine.specs.declared.Refusal.{Refusal}
+use Prim.Native.Nat.{ℕ, ◌+◌, ◌/◌}
 use mathlib.Core.Path.{◌≡◌, refl, sym, ap, ◌∙◌}
 use mathlib.Core.List.{List}
 use native.Mathlib.Omega.{arith}
 use Rattle.basics.specs.Outcome.{OneOutcome}
 use Rattle.table.specs.Table.{record_numbers}
-use Rattle.covering.specs.declared.LookupAnswer.{LookupAnswer}
-use Rattle.covering.specs.declared.LookupAnswer.TheVariants as answer
-use Rattle.lookup.specs.declared.Spot.{Spot}
-use Rattle.lookup.specs.declared.Spot.TheVariants as spot
 use Rattle.lookup.specs.Spots.{Spots}
 use Rattle.lookup.proofs.lookup.Kinds as kinds
 use Rattle.lookup.proofs.lookup.Reads as stated
 use Rattle.lookup.proofs.look_accepted.Kinds as accepted-kinds
 use Rattle.lookup.proofs.look_accepted.Reads as accepted-stated
+use Rattle.covering.specs.declared.Leaf.{Leaf}
 
 -- of one state, table and time: one answer; all three stay as they were
 pub lookup_once : OneOutcome 1 kinds.ps kinds.r stated.Pre stated.Post
@@ -23,25 +22,25 @@ lookup_once = record {
 }
 
 -- a found leaf's number, and the number of a refusal
-leaf_in : LookupAnswer → ℕ
-leaf_in (answer.Found n r) = n
-leaf_in (answer.Refused x) = 0
+leaf_in : Result Leaf Refusal → ℕ
+leaf_in (Ok l) = l.number
+leaf_in (Err x) = 0
 
-number_in : LookupAnswer → ℕ
-number_in (answer.Found n r) = 0
-number_in (answer.Refused x) = x.number
+number_in : Result Leaf Refusal → ℕ
+number_in (Ok l) = 0
+number_in (Err x) = x.number
 
 -- one answer has one spot
-one_spot : (table : List ℕ) (a : LookupAnswer) (r r' : Spot) → Spots table a r → Spots table a r' → r ≡ r'
+one_spot : (table : List ℕ) (a : Result Leaf Refusal) (r r' : Result ℕ ℕ) → Spots table a r → Spots table a r' → r ≡ r'
 unfolding leaf_in number_in
-one_spot table a (spot.At at) (spot.At at') p q =
+one_spot table a (Ok at) (Ok at') p q =
     let one : at / record_numbers + 1 ≡ at' / record_numbers + 1 = ap leaf_in (p.1 ∙ sym q.1) in
     let starts = p.0.starts in
     let starts' = q.0.starts in
-    ap spot.At (omega arith)
-one_spot table a (spot.At at) (spot.Refused n) p q = let one : at / record_numbers + 1 ≡ 0 = ap leaf_in (p.1 ∙ sym q) in absurd (omega arith)
-one_spot table a (spot.Refused n) (spot.At at) p q = let one : 0 ≡ at / record_numbers + 1 = ap leaf_in (p ∙ sym q.1) in absurd (omega arith)
-one_spot table a (spot.Refused n) (spot.Refused n') p q = ap spot.Refused (ap number_in (p ∙ sym q))
+    ap (λ (k : ℕ). Ok k) (omega arith)
+one_spot table a (Ok at) (Err n) p q = let one : at / record_numbers + 1 ≡ 0 = ap leaf_in (p.1 ∙ sym q) in absurd (omega arith)
+one_spot table a (Err n) (Ok at) p q = let one : 0 ≡ at / record_numbers + 1 = ap leaf_in (p ∙ sym q.1) in absurd (omega arith)
+one_spot table a (Err n) (Err n') p q = ap (λ (k : ℕ). Err k) (ap number_in (p ∙ sym q))
 
 -- of the numbers of one accepted state, one table and one time: one spot; the table stays as it was
 pub look_accepted_once : OneOutcome 1 accepted-kinds.ps accepted-kinds.r accepted-stated.Pre accepted-stated.Post

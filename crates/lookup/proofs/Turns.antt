@@ -1,4 +1,5 @@
 -- A pass over the records, whatever the time: what the records from the i-th on come to is what all come to.
+use Rattle.std.specs.Prelude.{Ok}
 use Prim.Native.Nat.{ℕ, suc, ◌+◌, ◌-◌, ◌*◌, ◌/◌, ◌≤◌, ◌<◌}
 use mathlib.Core.Path.{◌≡◌, sym, ap, subst, ◌∙◌}
 use mathlib.Core.List.{List}
@@ -8,12 +9,9 @@ use native.Mathlib.Omega.{arith}
 use native.Mathlib.Numerals.{add-one}
 use Rattle.basics.proofs.Picks.{pick_yes, pick_no}
 use lib.ListN.{length}
-use Rattle.table.specs.declared.Record.{Record}
 use Rattle.table.specs.Table.{record_numbers, record_at}
 use Rattle.moment.specs.Moments.{Moment}
-use Rattle.covering.specs.declared.LookupAnswer.TheVariants as answer
-use Rattle.covering.specs.Lookup.{record_covers, covering_from, outside, found, look_in}
-use Rattle.lookup.specs.declared.Spot.TheVariants as spot
+use Rattle.covering.specs.Lookup.{record_covers, covering_from, outside, found, look_in, the_leaf}
 use Rattle.lookup.specs.Spots.{record_from, Spots}
 
 -- the records from the i-th of so many on come to what all come to
@@ -26,11 +24,11 @@ module _ (leaves : ℕ) (table : List ℕ) (t : Moment) where
 
   module _ (i : ℕ) (rest : Rest leaves table t i) where
     -- the i-th record covers the time: it is the answer
-    pub turn_found : i < leaves → record_covers (record_at table i) t ≡ true → answer.Found (i + 1) (record_at table i) ≡ look_in leaves table t
+    pub turn_found : i < leaves → record_covers (record_at table i) t ≡ true → Ok (the_leaf (i + 1) (record_at table i)) ≡ look_in leaves table t
     unfolding covering_from found
     turn_found h c =
         let e : leaves - i ≡ suc (leaves - (i + 1)) = omega arith in
-        ap (λ (n : ℕ). answer.Found n (record_at table i)) (add-one i)
+        ap (λ (n : ℕ). Ok (the_leaf n (record_at table i))) (add-one i)
         ∙ sym (ap (λ (k : ℕ). found leaves table t (covering_from k i table t)) e
         ∙ ap (λ (o : Option ℕ). found leaves table t o) (pick_yes (record_covers (record_at table i) t) _ _ c))
         ∙ rest
@@ -67,7 +65,7 @@ module _ (leaves : ℕ) (table : List ℕ) (t : Moment) where
     unfolding record_at
     same_record b e = ap (λ (k : ℕ). record_covers (record_from table k) t) so.starts ∙ sym e
 
-    pub place_found : record_numbers * leaves ≤ length table → at < record_numbers * leaves → true ≡ record_covers (record_from table at) t → Spots table (look_in leaves table t) (spot.At at)
+    pub place_found : record_numbers * leaves ≤ length table → at < record_numbers * leaves → true ≡ record_covers (record_from table at) t → Spots table (look_in leaves table t) (Ok at)
     place_found long h e =
         let starts = so.starts in
         (record { starts = starts; inside = omega arith }, turn_found leaves table t (at / record_numbers) so.rest (omega arith) (same_record true e))

@@ -1,12 +1,11 @@
 -- What the inner functions of a lookup answer: a spot, which stands for an answer in a table.
-use Rattle.std.specs.Prelude.{ℕ, ◌+◌, ◌*◌, ◌/◌, ◌≤◌, ◌≡◌, List, length, get_or}
+use Rattle.std.specs.Prelude.{ℕ, ◌+◌, ◌*◌, ◌/◌, ◌≤◌, ◌≡◌, List, length, get_or, Result, Ok, Err}
+use Rattle.machine.specs.declared.Refusal.{Refusal}
 use Rattle.machine.specs.Faults.{refusal}
 use Rattle.table.specs.declared.Record.{Record}
 use Rattle.table.specs.Table.{record_numbers, record_at}
-use Rattle.covering.specs.declared.LookupAnswer.{LookupAnswer}
-use Rattle.covering.specs.declared.LookupAnswer.TheVariants as answer
-use Rattle.lookup.specs.declared.Spot.{Spot}
-use Rattle.lookup.specs.declared.Spot.TheVariants as spot
+use Rattle.covering.specs.declared.Leaf.{Leaf}
+use Rattle.covering.specs.Lookup.{the_leaf}
 
 -- the record whose first number stands at a place of a table
 abbrev pub record_from : List ℕ → ℕ → Record
@@ -20,16 +19,16 @@ pub record AtRecord (table : List ℕ) (at : ℕ) : Type 0 where
   pub inside : at + record_numbers ≤ length table
 
 -- the answer that a spot stands for in a table: the leaf whose record is there, or a refusal
-abbrev pub answer_at : List ℕ → Spot → LookupAnswer
-answer_at table (spot.At at) = answer.Found (at / record_numbers + 1) (record_at table (at / record_numbers))
-answer_at table (spot.Refused n) = answer.Refused (refusal n 0)
+abbrev pub answer_at : List ℕ → Result ℕ ℕ → Result Leaf Refusal
+answer_at table (Ok at) = Ok (the_leaf (at / record_numbers + 1) (record_at table (at / record_numbers)))
+answer_at table (Err n) = Err (refusal n 0)
 
 -- the spot lies on a record, if it is no refusal
-abbrev pub OnRecord : List ℕ → Spot → Type 0
-OnRecord table (spot.At at) = AtRecord table at
-OnRecord table (spot.Refused n) = Unit {0}
+abbrev pub OnRecord : List ℕ → Result ℕ ℕ → Type 0
+OnRecord table (Ok at) = AtRecord table at
+OnRecord table (Err n) = Unit {0}
 
 -- an answer is what a spot stands for
-abbrev pub Spots : List ℕ → LookupAnswer → Spot → Type 0
-Spots table a (spot.At at) = AtRecord table at × (answer_at table (spot.At at) ≡ a)
-Spots table a (spot.Refused n) = answer_at table (spot.Refused n) ≡ a
+abbrev pub Spots : List ℕ → Result Leaf Refusal → Result ℕ ℕ → Type 0
+Spots table a (Ok at) = AtRecord table at × (answer_at table (Ok at) ≡ a)
+Spots table a (Err n) = answer_at table (Err n) ≡ a

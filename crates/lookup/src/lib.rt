@@ -1,7 +1,7 @@
 // A time looked up in the leaf table of an accepted segment, in ticks or in seconds.
 #![tactic(auto)]
 
-ghost use Rattle.std.specs.Prelude.{◌≡◌, ◌+◌, ◌*◌, ◌^◌, ◌≤◌, ◌<◌, length};
+ghost use Rattle.std.specs.Prelude.{◌≡◌, ◌+◌, ◌*◌, ◌^◌, ◌≤◌, ◌<◌, length, Err};
 ghost use Rattle.basics.specs.Choose.{pick};
 ghost use Rattle.machine.specs.Faults.{refusal};
 ghost use Rattle.table.specs.Table.{most_records, record_numbers};
@@ -9,10 +9,9 @@ ghost use Rattle.moment.specs.Moments.{tick, moment_of};
 ghost use Rattle.state.specs.declared.State.TheVariants as state;
 ghost use Rattle.state.specs.Ranges.{in_range};
 ghost use Rattle.covering.specs.Lookup.{record_covers, outside, look_in, look_among, lookup_of};
-ghost use Rattle.covering.specs.declared.LookupAnswer.TheVariants as answer;
 ghost use Rattle.lookup.specs.Spots.{record_from, Spots};
 
-use covering::LookupAnswer;
+use covering::Leaf;
 use machine::Refusal;
 use moment::Request;
 use seconds::{Ticks, ticks_asked};
@@ -40,13 +39,9 @@ const NO_TIME: u64 = 26;
 // The highest number of 64 bits.
 const HIGHEST: u64 = 18446744073709551615;
 
-// Where a lookup ends: at a record, by the place of its first number in the table, or at the number of a refusal. Spots fit in
-// registers, an answer does not: the ways through a lookup meet in a spot, and one place makes the answer of it.
-#[derive(Clone, Copy)]
-pub enum Spot {
-    At(usize),
-    Refused(u64),
-}
+// A spot is where a lookup ends: at a record, by the place of its first number in the table, or at the number of a refusal. Spots fit in
+// registers, an answer does not: the ways through a lookup meet in a spot, and one place makes the answer of it. The number is document 01's
+// and no enum's: C gets it so, and edits of `mazurlot` say numbers that no lookup refuses with.
 
 // Whether the record at a place covers t. The end is not computed, since it may not fit.
 fn covers_at(table: &[u64], at: usize, t: u64) -> bool
@@ -54,14 +49,7 @@ fn covers_at(table: &[u64], at: usize, t: u64) -> bool
     ensures { result ≡ record_covers (record_from table.now at) (tick t) }
 {
     let start = table[at + START];
-    if t < start {
-        return false;
-    }
-    let duration = table[at + DURATION];
-    if t - start < duration {
-        return true;
-    }
-    false
+    start <= t && t - start < table[at + DURATION]
 }
 
 // Whether the record at a place covers 2^64 + t. It starts before that, so its end has to lie farther past 2^64 than t. The end is not
@@ -72,29 +60,23 @@ fn covers_beyond(table: &[u64], at: usize, t: u64) -> bool
 {
     let room = HIGHEST - table[at + START];
     let duration = table[at + DURATION];
-    if duration <= room {
-        return false;
-    }
-    t < duration - room - 1
+    room < duration && t < duration - room - 1
 }
 
 // No record covers t: the number that refuses a time before the first leaf, or past the list.
 fn outside_list(leaves: usize, table: &[u64], t: u64) -> u64
     requires { record_numbers * leaves ≤ length table.now }
-    ensures { answer.Refused (refusal result 0) ≡ outside leaves table.now (tick t) }
+    ensures { Err (refusal result 0) ≡ outside leaves table.now (tick t) }
 {
     if leaves == 0 {
         return PAST;
     }
-    let start = table[START];
-    if t < start {
-        return BEFORE;
-    }
-    PAST
+    if t < table[START] { BEFORE } else { PAST }
 }
 
 // The lowest-numbered record that covers t: the first one met. The loop counts places and not records: one number less to keep.
-fn look_in(leaves: usize, table: &[u64], t: u64) -> Spot
+// It stays apart from that of `look_beyond`: it tests no more a record than it must, which docs/SPEED.md holds it to.
+fn look_in(leaves: usize, table: &[u64], t: u64) -> Result<usize, u64>
     requires { record_numbers * leaves ≤ length table.now }
     ensures { Spots table.now (look_in leaves table.now (tick t)) result }
 {
@@ -102,16 +84,16 @@ fn look_in(leaves: usize, table: &[u64], t: u64) -> Spot
     let mut at: usize = 0;
     while at < stop {
         if covers_at(table, at, t) {
-            return Spot::At(at);
+            return Ok(at);
         }
         at += NUMBERS;
     }
-    Spot::Refused(outside_list(leaves, table, t))
+    Err(outside_list(leaves, table, t))
 }
 
 // The same of 2^64 + t. Every record starts before it, so where none covers it, it is past the list. Only a table that no reading left has
 // a record that reaches so far.
-fn look_beyond(leaves: usize, table: &[u64], t: u64) -> Spot
+fn look_beyond(leaves: usize, table: &[u64], t: u64) -> Result<usize, u64>
     requires { record_numbers * leaves ≤ length table.now }
     ensures { Spots table.now (look_in leaves table.now (tick (2 ^ 64 + t))) result }
 {
@@ -119,15 +101,15 @@ fn look_beyond(leaves: usize, table: &[u64], t: u64) -> Spot
     let mut at: usize = 0;
     while at < stop {
         if covers_beyond(table, at, t) {
-            return Spot::At(at);
+            return Ok(at);
         }
         at += NUMBERS;
     }
-    Spot::Refused(PAST)
+    Err(PAST)
 }
 
 // A leaf starts and ends at a tick, so it covers a time exactly where it covers the time's whole ticks.
-fn look_among(leaves: u64, scale: u64, table: &[u64], request: Request) -> Spot
+fn look_among(leaves: u64, scale: u64, table: &[u64], request: Request) -> Result<usize, u64>
     requires list_fits { leaves ≤ most_records }
     requires scaled { 0 < scale }
     requires scale_fits { scale < 2 ^ 32 }
@@ -135,58 +117,68 @@ fn look_among(leaves: u64, scale: u64, table: &[u64], request: Request) -> Spot
 {
     let listed = leaves as usize;
     if table.len() < NUMBERS * listed {
-        return Spot::Refused(SHORT_TABLE);
+        return Err(SHORT_TABLE);
     }
-    let ticks = ticks_asked(request, scale);
+    let Some(ticks) = ticks_asked(request, scale) else {
+        return Err(NO_TIME);
+    };
     match ticks {
         Ticks::At(t) => look_in(listed, table, t),
         Ticks::Beyond(t) => look_beyond(listed, table, t),
-        Ticks::Past => Spot::Refused(PAST),
-        Ticks::NoTime => Spot::Refused(NO_TIME),
+        Ticks::Past => Err(PAST),
     }
 }
 
 // The spot that an accepted state gives, from its numbers: for callers that keep a state as numbers.
-pub fn look_accepted(count: u64, leaves: u64, top: Top, table: &[u64], request: Request) -> Spot
+pub fn look_accepted(
+    count: u64,
+    leaves: u64,
+    top: Top,
+    table: &[u64],
+    request: Request,
+) -> Result<usize, u64>
     ensures { Spots table.now (lookup_of (state.Accepted count leaves top) table.now request) result }
 {
     if range::accepted_in_range(count, leaves, top) {
         return look_among(leaves, top.scale, table, request);
     }
-    Spot::Refused(OUT_OF_RANGE)
+    Err(OUT_OF_RANGE)
 }
 
 // The number that refuses a state that is not accepted: 2, then 22.
 fn not_accepted(s: State) -> u64
-    ensures { answer.Refused (refusal result 0) ≡ pick (in_range s) (answer.Refused (refusal 22 0)) (answer.Refused (refusal 2 0)) }
+    ensures { result ≡ pick (in_range s) 22 2 }
 {
     if range::in_range(s) {
-        return NOT_FINISHED;
+        NOT_FINISHED
+    } else {
+        OUT_OF_RANGE
     }
-    OUT_OF_RANGE
 }
 
 // The spot that any state gives.
-fn spot_of(s: State, table: &[u64], request: Request) -> Spot
+fn spot_of(s: State, table: &[u64], request: Request) -> Result<usize, u64>
     ensures { Spots table.now (lookup_of s table.now request) result }
 {
     let State::Accepted { count, leaves, top } = s else {
-        return Spot::Refused(not_accepted(s));
+        return Err(not_accepted(s));
     };
     look_accepted(count, leaves, top, table, request)
 }
 
 // The leaf that covers the time asked for, with its number, in the list of an accepted segment. A lookup reads no byte of the segment: it
 // refuses at place 0.
-pub fn lookup(s: State, table: &[u64], request: Request) -> LookupAnswer
+pub fn lookup(s: State, table: &[u64], request: Request) -> Result<Leaf, Refusal>
     ensures { result ≡ lookup_of s table.now request }
 {
-    let spot = spot_of(s, table, request);
-    match spot {
-        Spot::At(at) => {
+    match spot_of(s, table, request) {
+        Ok(at) => {
             let i = at / NUMBERS;
-            LookupAnswer::Found((i + 1) as u64, records::record_at(table, i))
+            Ok(Leaf {
+                number: (i + 1) as u64,
+                record: records::record_at(table, i),
+            })
         }
-        Spot::Refused(number) => LookupAnswer::Refused(Refusal { number, place: 0 }),
+        Err(number) => Err(Refusal { number, place: 0 }),
     }
 }

@@ -1,8 +1,9 @@
 // What every reading here is made of, whatever it reads: a refusal, and the header of a box byte by byte.
 #![tactic(auto)]
 
-// A refusal: its number in document 01's table, and its place.
-#[derive(Clone, Copy)]
+// A refusal: its number in document 01's table, and its place. C gets that number, and a state from outside may hold any: an enum would
+// leave out states that a call has to answer.
+#[derive(Clone, Copy, PartialEq, Eq)]
 pub struct Refusal {
     pub number: u64,
     pub place: u64,
@@ -32,11 +33,26 @@ pub enum Head {
     },
 }
 
-// A header that was read: the box's first byte, its type, its size, and how many bytes of it the header takes.
+// A header that was read: the box's first byte, its type, its size, and how many bytes of it the header takes. The type is any number of
+// 32 bits: a box of a type that is not known is skipped.
 #[derive(Clone, Copy)]
 pub struct Header {
     pub pos: u64,
     pub kind: u64,
     pub size: u64,
     pub head: u64,
+}
+
+// What a byte makes of a reading that it does not refuse: it goes on, or it is done with what it reads.
+#[derive(Clone, Copy)]
+pub enum Step<S, R> {
+    Going(S),
+    Done(R),
+}
+
+// A list of boxes that is being read, with what is known of it between two boxes: in the header of a box, or in the body of one.
+#[derive(Clone, Copy)]
+pub enum BoxesSo<A, B> {
+    Head(A, Head),
+    Body(A, B),
 }

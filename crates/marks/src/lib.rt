@@ -4,8 +4,9 @@
 ghost use Rattle.std.specs.Prelude.{◌≡◌};
 ghost use Rattle.marks.specs.Marks.{resolve_of};
 
-use covering::LookupAnswer;
+use covering::Leaf;
 use lookup::lookup;
+use machine::Refusal;
 use moment::Request;
 use state::State;
 
@@ -20,7 +21,7 @@ pub struct Mark {
 #[derive(Clone, Copy)]
 pub struct Resolved {
     pub page: u32,
-    pub answer: LookupAnswer,
+    pub answer: Result<Leaf, Refusal>,
 }
 
 // The page comes back with a refusal too, so that the player knows which mark has none.

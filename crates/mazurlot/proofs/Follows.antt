@@ -1,18 +1,17 @@
 -- The library's calls one after the other are the calls inside: what start, feed, finish and the whole reader leave in the state slice reads as
 -- the state that the call inside leaves, and the next call goes on from it.
+use Rattle.std.specs.Prelude.{ℕ, Result, Ok, Err}
 use Prim.Native.Nat.{ℕ, ◌≤◌}
-use mathlib.Core.Path.{◌≡◌, refl, ap, ◌∙◌}
+use mathlib.Core.Path.{◌≡◌}
 use mathlib.Core.List.{List}
-use mathlib.Core.Option.{Option, some}
+use mathlib.Core.Option.{some}
 use lib.ListN.{length}
-use lib.Dec.{ltb, eqb}
 use borrow.Author.Tests.{le-ltb, eq-eqb}
 use Rattle.basics.specs.Bytes.{AllBytes}
 use Rattle.basics.specs.Choose.{pick}
+use Rattle.machine.specs.declared.Refusal.{Refusal}
 use Rattle.state.specs.declared.State.{State}
 use Rattle.state.specs.Ranges.{InRange}
-use Rattle.state.specs.declared.FeedAnswer.{FeedAnswer}
-use Rattle.state.specs.declared.FeedAnswer.TheVariants as feeds
 use Rattle.state.specs.Calls.{start_of, feed_of, finish_of, finish_after, whole_of}
 use Rattle.state.proofs.RangeTests.{in_range_lem}
 use Rattle.state.proofs.Ranges.{start_in_range, feed_in_range, finish_in_range}
@@ -20,7 +19,7 @@ use Rattle.numbered.specs.Numbers.{state_numbers, numbers_of}
 use Rattle.numbered.specs.Unpacked.{unpack_of}
 use Rattle.numbered.proofs.Unpacks.{unpack_packed, unpacked_is}
 use Rattle.mazurlot.specs.Answers.{one_value}
-use Rattle.mazurlot.specs.Calls.{Call, start_call, fed_from, feed_call, finished_from, finish_call, whole_call}
+use Rattle.mazurlot.specs.Calls.{start_call, fed_from, feed_call, finished_from, finish_call, whole_call}
 
 -- a state inside the ranges is read back from its numbers
 back : (s : State) → InRange s → unpack_of (numbers_of s) ≡ some s
@@ -45,11 +44,11 @@ module _ (ns slot : List ℕ) (s : State) (is : unpack_of ns ≡ some s) (room :
   finish_follows = rw (le-ltb (length slot) one_value room, is) (back (finish_of s).state (finish_in_range s inside))
 
 -- the state after a whole reading: that of its feed, or of finish after it
-whole_inside : (brand : ℕ) (segment work table : List ℕ) → AllBytes segment → (a : FeedAnswer) → InRange (finish_after (feed_of (start_of brand) segment work table) a).state
+whole_inside : (brand : ℕ) (segment work table : List ℕ) → AllBytes segment → (a : Result ℕ Refusal) → InRange (finish_after (feed_of (start_of brand) segment work table) a).state
 unfolding finish_after
-whole_inside brand segment work table bytes (feeds.Read n) =
+whole_inside brand segment work table bytes (Ok n) =
     finish_in_range (feed_of (start_of brand) segment work table).state (feed_in_range (start_of brand) segment work table bytes (start_in_range brand))
-whole_inside brand segment work table bytes (feeds.Refused x) = feed_in_range (start_of brand) segment work table bytes (start_in_range brand)
+whole_inside brand segment work table bytes (Err x) = feed_in_range (start_of brand) segment work table bytes (start_in_range brand)
 
 pub whole_follows : (brand : ℕ) (segment ns work table slot : List ℕ) → AllBytes segment → length ns ≡ state_numbers → one_value ≤ length slot →
     unpack_of (whole_call brand segment ns work table slot).state ≡ some (whole_of brand segment work table).state

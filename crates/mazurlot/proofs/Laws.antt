@@ -1,4 +1,5 @@
 -- Laws of what a call says and leaves: what is written into the slot; a state found or not; a state packed over the numbers of another.
+use Rattle.std.specs.Prelude.{Result, Ok, Err}
 use Prim.Native.Nat.{ℕ}
 use mathlib.Core.Path.{◌≡◌, refl, sym, ap, ◌∙◌}
 use mathlib.Core.List.{List, [], ◌∷◌, ◌++◌}
@@ -7,6 +8,7 @@ use mathlib.Core.Option.{Option, some, none}
 use lib.Dec.{eqb}
 use lib.ListN.{length, set}
 use borrow.Author.Tests.{eq-eqb, ne_eqb}
+use Rattle.std.specs.Prelude.{Result, Ok, Err}
 use Rattle.basics.specs.Choose.{pick}
 use Rattle.basics.specs.Put.{put_all}
 use Rattle.machine.specs.declared.Refusal.{Refusal}
@@ -15,19 +17,14 @@ use Rattle.numbered.specs.Numbers.{numbers_of, state_numbers}
 use Rattle.numbered.specs.Unpacked.{unpack_of, pack_of}
 use Rattle.numbered.proofs.Lengths.{numbers_length}
 use Rattle.numbered.proofs.Unpacks.{unpacked_is}
-use Rattle.pack.specs.declared.Unpacked.{Unpacked}
-use Rattle.pack.specs.declared.Unpacked.TheVariants as unpacks
 use Rattle.pack.specs.Pack.{unpacked, unpack_answer}
-use Rattle.covering.specs.declared.LookupAnswer.{LookupAnswer}
-use Rattle.covering.specs.declared.LookupAnswer.TheVariants as looks
-use Rattle.lookup.specs.declared.Spot.{Spot}
-use Rattle.lookup.specs.declared.Spot.TheVariants as spot
 use Rattle.lookup.specs.Spots.{Spots, OnRecord, answer_at}
 use Rattle.moment.specs.declared.Request.TheVariants as request
 use Rattle.marks.specs.declared.Mark.{Mark}
-use Rattle.mazurlot.specs.Answers.{Said, said, of_lookup, of_mark, slot_after}
+use Rattle.mazurlot.specs.Answers.{said, of_lookup, of_mark, slot_after}
 use Rattle.mazurlot.specs.Accepted.{refused_with}
-use Rattle.mazurlot.specs.Calls.{Call, call, look_from, resolved_from}
+use Rattle.mazurlot.specs.Calls.{call, look_from, resolved_from}
+use Rattle.covering.specs.declared.Leaf.{Leaf}
 
 -- 2 writes nothing; any other number its values
 pub two_writes_nothing : (n : ℕ) (vs slot : List ℕ) → n ≡ 2 → slot ≡ slot_after (said n vs) slot
@@ -44,31 +41,31 @@ same_call {n} {n'} {slot} {slot'} {ns} {ns'} {work} {table} a b c =
     ap (λ (k : ℕ). call k slot ns work table) a ∙ ap (λ (l : List ℕ). call n' l ns work table) b ∙ ap (λ (l : List ℕ). call n' slot' l work table) c
 
 -- the state that an answer of unpacking holds
-state_in : Unpacked → Option State
-state_in (unpacks.Found s) = some s
-state_in (unpacks.Refused x) = none
+state_in : Result State Refusal → Option State
+state_in (Ok s) = some s
+state_in (Err x) = none
 
 -- the number of a refusal that it holds
-number_in : Unpacked → ℕ
-number_in (unpacks.Found s) = 0
-number_in (unpacks.Refused x) = x.number
+number_in : Result State Refusal → ℕ
+number_in (Ok s) = 0
+number_in (Err x) = x.number
 
 back : (o : Option State) → state_in (unpacked o) ≡ o
 unfolding state_in unpacked
 back none = refl
 back (some s) = refl
 
-module _ (ns : List ℕ) (r : Unpacked) (answered : r ≡ unpack_answer ns) where
-  pub was_found : (s : State) → r ≡ unpacks.Found s → unpack_of ns ≡ some s
+module _ (ns : List ℕ) (r : Result State Refusal) (answered : r ≡ unpack_answer ns) where
+  pub was_found : (s : State) → r ≡ Ok s → unpack_of ns ≡ some s
   unfolding state_in
   was_found s e = sym (back (unpack_of ns)) ∙ ap state_in (sym answered ∙ e)
 
-  pub was_refused : (x : Refusal) → r ≡ unpacks.Refused x → unpack_of ns ≡ none
+  pub was_refused : (x : Refusal) → r ≡ Err x → unpack_of ns ≡ none
   unfolding state_in
   was_refused x e = sym (back (unpack_of ns)) ∙ ap state_in (sym answered ∙ e)
 
   -- what is no state is refused with 2
-  pub two_refused : (x : Refusal) → r ≡ unpacks.Refused x → x.number ≡ refused_with (unpack_of ns)
+  pub two_refused : (x : Refusal) → r ≡ Err x → x.number ≡ refused_with (unpack_of ns)
   unfolding unpacked refused_with number_in
   two_refused x e = let gone = was_refused x e in sym (ap number_in (sym answered ∙ e)) ∙ ap (λ (o : Option State). number_in (unpacked o)) gone ∙ sym (ap refused_with gone)
 
@@ -81,9 +78,9 @@ pub packed_over : (ns : List ℕ) (s next : State) → unpack_of ns ≡ some s �
 packed_over ns s next e = packed_in ns next (ap length (unpacked_is ns s e).0 ∙ numbers_length s)
 
 -- a spot that stands for an answer lies on a record, and the answer is what it gives
-pub spot_told : (table : List ℕ) (a : LookupAnswer) (s : Spot) → Spots table a s → OnRecord table s × (answer_at table s ≡ a)
-spot_told table a (spot.At at) e = e
-spot_told table a (spot.Refused n) e = (tt, e)
+pub spot_told : (table : List ℕ) (a : Result Leaf Refusal) (s : Result ℕ ℕ) → Spots table a s → OnRecord table s × (answer_at table s ≡ a)
+spot_told table a (Ok at) e = e
+spot_told table a (Err n) e = (tt, e)
 
 -- a mark is answered as its seconds are, with its page behind
 pub mark_looked_up : (o : Option State) (table : List ℕ) (m : Mark) →
@@ -92,10 +89,10 @@ unfolding resolved_from look_from
 mark_looked_up none table m = refl
 mark_looked_up (some s) table m = refl
 
-page_put : (slot : List ℕ) (a : LookupAnswer) (page : ℕ) → set (put_all slot 0 (of_lookup a).values) 7 page ≡ put_all slot 0 ((of_lookup a).values ++ page ∷ [])
+page_put : (slot : List ℕ) (a : Result Leaf Refusal) (page : ℕ) → set (put_all slot 0 (of_lookup a).values) 7 page ≡ put_all slot 0 ((of_lookup a).values ++ page ∷ [])
 unfolding of_lookup put_all
-page_put slot (looks.Found leaf r) page = refl
-page_put slot (looks.Refused x) page = refl
+page_put slot (Ok leaf) page = refl
+page_put slot (Err x) page = refl
 
 either_written : (b : Bool) (slot xs ys : List ℕ) (page : ℕ) → set xs 7 page ≡ ys → pick b (pick b slot xs) (set (pick b slot xs) 7 page) ≡ pick b slot ys
 unfolding pick
@@ -103,14 +100,14 @@ either_written true slot xs ys page e = refl
 either_written false slot xs ys page e = e
 
 -- the page written behind what was written of a lookup, unless that is a 2
-pub page_behind : (slot : List ℕ) (a : LookupAnswer) (page : ℕ) →
+pub page_behind : (slot : List ℕ) (a : Result Leaf Refusal) (page : ℕ) →
     let n : ℕ = (of_lookup a).number in
     pick (eqb n 2) (slot_after (of_lookup a) slot) (set (slot_after (of_lookup a) slot) 7 page) ≡ slot_after (said n ((of_lookup a).values ++ page ∷ [])) slot
 unfolding slot_after
 page_behind slot a page =
     either_written (eqb (of_lookup a).number 2) slot (put_all slot 0 (of_lookup a).values) (put_all slot 0 ((of_lookup a).values ++ page ∷ [])) page (page_put slot a page)
 
-pub page_said : (slot : List ℕ) (a : LookupAnswer) (page : ℕ) {n : ℕ} {first last : List ℕ} → (n ≡ (of_lookup a).number) × (first ≡ slot_after (of_lookup a) slot) →
+pub page_said : (slot : List ℕ) (a : Result Leaf Refusal) (page : ℕ) {n : ℕ} {first last : List ℕ} → (n ≡ (of_lookup a).number) × (first ≡ slot_after (of_lookup a) slot) →
     last ≡ pick (eqb n 2) first (set first 7 page) → last ≡ slot_after (said (of_lookup a).number ((of_lookup a).values ++ page ∷ [])) slot
 page_said slot a page {n} {first} {last} e put =
     put ∙ ap (λ (k : ℕ). pick (eqb k 2) first (set first 7 page)) e.0 ∙ ap (λ (l : List ℕ). pick (eqb (of_lookup a).number 2) l (set l 7 page)) e.1 ∙ page_behind slot a page

@@ -1,13 +1,15 @@
 -- Numbers that are an accepted state's, told by its tag and the zeros behind it; and a lookup over the numbers of a state.
-use Prim.Native.Nat.{ℕ, zero, suc, ◌+◌, ◌≤◌, ◌<◌}
+use Rattle.std.specs.Prelude.{Err}
+use native.Mathlib.Omega.{arith}
+use Prim.Native.Nat.{ℕ, suc, ◌+◌, ◌≤◌, ◌<◌}
 use mathlib.Core.Path.{◌≡◌, refl, sym, ap, ◌∙◌}
-use mathlib.Core.List.{List, [], ◌∷◌, ◌++◌}
+use mathlib.Core.List.{List, [], ◌∷◌}
 use mathlib.Core.Bool.{Bool, true, false, ◌&&◌, false≢true, and-true, and_assoc}
 use mathlib.Core.Option.{Option, some, none}
-use native.Mathlib.Omega.{arith}
 use lib.Dec.{eqb}
-use lib.ListN.{length, drop, replicate, get_or, length-replicate, get_or-replicate}
-use borrow.Author.Tests.{eqb-true, eq-eqb}
+use lib.ListN.{length, drop, replicate, get_or, length-replicate, get_or-replicate, drop_of_length-le}
+use lib.Seq.{drop-cons}
+use borrow.Author.Tests.{eqb-true}
 use Rattle.basics.specs.Choose.{pick}
 use Rattle.basics.proofs.Tests.{and_both}
 use Rattle.machine.specs.Faults.{refusal}
@@ -17,16 +19,22 @@ use Rattle.state.specs.declared.State.{State}
 use Rattle.state.specs.declared.State.TheVariants as state
 use Rattle.state.specs.Ranges.{in_range}
 use Rattle.numbered.specs.Numbers.{numbers_of, used_numbers, padded, state_numbers}
-use Rattle.numbered.specs.Blocks.{state_of}
 use Rattle.numbered.specs.Unpacked.{same_numbers, unpack_of}
 use Rattle.numbered.proofs.RoundTrip.{state_back}
-use Rattle.pack.proofs.Laws.{same_more, same_over}
 use Rattle.numbered.proofs.Unpacks.{same_equal, same_self, unpack_packed, unpacked_is}
-use Rattle.covering.specs.declared.LookupAnswer.{LookupAnswer}
-use Rattle.covering.specs.declared.LookupAnswer.TheVariants as looks
 use Rattle.covering.specs.Lookup.{lookup_state, lookup_of}
-use Rattle.mazurlot.specs.Accepted.{used, zeros_behind, accepted_numbers, refused_with}
+use Rattle.mazurlot.specs.Accepted.{zeros_behind, accepted_numbers, refused_with}
 use Rattle.mazurlot.specs.Calls.{look_from}
+
+-- numbers compared from a place on: one more, where both have it; none left
+module _ (a b : List ℕ) (i : ℕ) where
+  same_more : i < length a → i < length b → same_numbers (drop i a) (drop i b) ≡ (eqb (get_or a i 0) (get_or b i 0) && same_numbers (drop (i + 1) a) (drop (i + 1) b))
+  unfolding same_numbers
+  same_more h k = let e : i + 1 ≡ suc i = omega arith in rw (e, drop-cons a i 0 h, drop-cons b i 0 k)
+
+  same_over : length a ≤ i → length b ≤ i → same_numbers (drop i a) (drop i b) ≡ true
+  unfolding same_numbers
+  same_over h k = rw (drop_of_length-le a h, drop_of_length-le b k)
 
 -- A pass over the places behind: those from the i-th on, with what is known of the ones before it, come to what all come to.
 abbrev pub Rest : List ℕ → Bool → ℕ → Type 0
@@ -92,16 +100,16 @@ accepted_looked_up ns table r h = by (in_range s) refl
         rw e (ap (λ (o : Option State). look_from o table r) (sym other ∙ ap unpack_of (sym numbered)))
 
 -- any other state is refused with 22, and what is none with 2
-pub others_refused : (ns table : List ℕ) (r : Request) → accepted_numbers ns ≡ false → looks.Refused (refusal (refused_with (unpack_of ns)) 0) ≡ look_from (unpack_of ns) table r
+pub others_refused : (ns table : List ℕ) (r : Request) → accepted_numbers ns ≡ false → Err (refusal (refused_with (unpack_of ns)) 0) ≡ look_from (unpack_of ns) table r
 unfolding lookup_of lookup_state pick look_from refused_with
 others_refused ns table r h = by (unpack_of ns) refl
   where
-    of : (s : State) → ns ≡ numbers_of s → in_range s ≡ true → looks.Refused (refusal 22 0) ≡ lookup_of s table r
+    of : (s : State) → ns ≡ numbers_of s → in_range s ≡ true → Err (refusal 22 0) ≡ lookup_of s table r
     of (state.Reading n leaves now last s) e inside = rw inside
     of (state.Ended n leaves top) e inside = rw inside
     of (state.Refused n leaves x) e inside = rw inside
     of (state.Accepted n leaves top) e inside = absurd (false≢true (sym h ∙ ap accepted_numbers e ∙ accepted_told n leaves top))
 
-    by : (o : Option State) → unpack_of ns ≡ o → looks.Refused (refusal (refused_with o) 0) ≡ look_from o table r
+    by : (o : Option State) → unpack_of ns ≡ o → Err (refusal (refused_with o) 0) ≡ look_from o table r
     by none e = refl
     by (some s) e = let is = unpacked_is ns s e in of s is.0 is.1

@@ -1,15 +1,11 @@
 -- What a call of the library says, as numbers: 0 or the number of a refusal, and the values of its answer.
-use Rattle.std.specs.Prelude.{ℕ, List, [], ◌∷◌, ◌++◌, eqb, replicate}
+use Rattle.std.specs.Prelude.{ℕ, List, [], ◌∷◌, ◌++◌, eqb, replicate, Result, Ok, Err}
+use Rattle.machine.specs.declared.Refusal.{Refusal}
 use Rattle.basics.specs.Choose.{pick}
 use Rattle.basics.specs.Put.{put_all}
 use Rattle.table.specs.Table.{record_numbers, numbers_of}
-use Rattle.state.specs.declared.FeedAnswer.{FeedAnswer}
-use Rattle.state.specs.declared.FeedAnswer.TheVariants as feeds
-use Rattle.state.specs.declared.FinishAnswer.{FinishAnswer}
-use Rattle.state.specs.declared.FinishAnswer.TheVariants as finishes
-use Rattle.covering.specs.declared.LookupAnswer.{LookupAnswer}
-use Rattle.covering.specs.declared.LookupAnswer.TheVariants as looks
 use Rattle.marks.specs.declared.Resolved.{Resolved}
+use Rattle.covering.specs.declared.Leaf.{Leaf}
 
 pub record Said : Type 0 where
   pub number : ℕ
@@ -18,20 +14,15 @@ pub record Said : Type 0 where
 abbrev pub said : ℕ → List ℕ → Said
 said n vs = record { number = n; values = vs }
 
--- "An unrefused feed answers the count of all bytes read"; a refusal has a place
-unfoldable pub of_feed : FeedAnswer → Said
-of_feed (feeds.Read count) = said 0 (count ∷ [])
-of_feed (feeds.Refused x) = said x.number (x.place ∷ [])
-
--- "an accepted finish the leaf count"
-unfoldable pub of_finish : FinishAnswer → Said
-of_finish (finishes.Listed leaves) = said 0 (leaves ∷ [])
-of_finish (finishes.Refused x) = said x.number (x.place ∷ [])
+-- "An unrefused feed answers the count of all bytes read", "an accepted finish the leaf count"; a refusal has a place
+unfoldable pub of_count : Result ℕ Refusal → Said
+of_count (Ok count) = said 0 (count ∷ [])
+of_count (Err x) = said x.number (x.place ∷ [])
 
 -- "a lookup the leaf's number and record"; zeros stand in the place of a record with a refusal
-unfoldable pub of_lookup : LookupAnswer → Said
-of_lookup (looks.Found leaf r) = said 0 (leaf ∷ numbers_of r)
-of_lookup (looks.Refused x) = said x.number (x.place ∷ replicate record_numbers 0)
+unfoldable pub of_lookup : Result Leaf Refusal → Said
+of_lookup (Ok leaf) = said 0 (leaf.number ∷ numbers_of leaf.«record»)
+of_lookup (Err x) = said x.number (x.place ∷ replicate record_numbers 0)
 
 -- a mark's page comes behind, with a refusal too
 abbrev pub of_mark : Resolved → Said

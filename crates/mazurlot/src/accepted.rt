@@ -1,28 +1,18 @@
 // A lookup over the numbers of a state. Of an accepted state few are not 0: these are tested and taken as they stand, and no other state is read.
-ghost use Rattle.std.specs.Prelude.{◌&&◌, ◌≡◌, eqb, length};
+ghost use Rattle.std.specs.Prelude.{◌≡◌, length};
 ghost use Rattle.numbered.specs.Unpacked.{unpack_of};
 ghost use Rattle.lookup.specs.Spots.{Spots};
 ghost use Rattle.mazurlot.specs.Calls.{look_from};
 ghost use Rattle.mazurlot.specs.Accepted.{zeros_behind, accepted_numbers, refused_with};
 
 use crate::states::{ACCEPTED, USED};
-use lookup::{Spot, look_accepted};
+use lookup::look_accepted;
 use moment::Request;
-use pack::{STATE_NUMBERS, Unpacked, unpack};
+use pack::{STATE_NUMBERS, unpack};
 use state::Top;
 
 // Refused: the state is not accepted.
 const NOT_FINISHED: u64 = 22;
-
-// Whether a number is 0, and all before it were.
-fn zero_too(zeros: bool, n: u64) -> bool
-    ensures { result ≡ (zeros && eqb 0 n) }
-{
-    if n != 0 {
-        return false;
-    }
-    zeros
-}
 
 // Whether the places behind those that an accepted state uses are all 0. All are looked at, whatever they hold: that goes faster.
 fn zeros_behind(numbers: &[u64]) -> bool
@@ -30,10 +20,8 @@ fn zeros_behind(numbers: &[u64]) -> bool
     ensures { result ≡ zeros_behind numbers.now }
 {
     let mut zeros = true;
-    let mut i = USED;
-    while i < STATE_NUMBERS {
-        zeros = zero_too(zeros, numbers[i]);
-        i += 1;
+    for i in USED..STATE_NUMBERS {
+        zeros &= 0 == numbers[i];
     }
     zeros
 }
@@ -45,24 +33,21 @@ fn accepted_numbers(numbers: &[u64]) -> bool
     if numbers.len() != STATE_NUMBERS {
         return false;
     }
-    if numbers[0] != ACCEPTED {
-        return false;
-    }
-    zeros_behind(numbers)
+    numbers[0] == ACCEPTED && zeros_behind(numbers)
 }
 
-// The number that refuses what is no accepted state: 2, then 22.
+// The number that refuses what is no accepted state: 2, then 22. It is no enum's: C gets it (include/mazurlot.h).
 fn refused_with(numbers: &[u64]) -> u64
     ensures { result ≡ refused_with (unpack_of numbers.now) }
 {
     match unpack(numbers) {
-        Unpacked::Found(_) => NOT_FINISHED,
-        Unpacked::Refused(x) => x.number,
+        Ok(_) => NOT_FINISHED,
+        Err(x) => x.number,
     }
 }
 
 // Where the lookup ends in the list of the state that these numbers are.
-pub(crate) fn look(numbers: &[u64], table: &[u64], request: Request) -> Spot
+pub(crate) fn look(numbers: &[u64], table: &[u64], request: Request) -> Result<usize, u64>
     ensures { Spots table.now (look_from (unpack_of numbers.now) table.now request) result }
 {
     if accepted_numbers(numbers) {
@@ -74,5 +59,5 @@ pub(crate) fn look(numbers: &[u64], table: &[u64], request: Request) -> Spot
         };
         return look_accepted(numbers[1], numbers[2], top, table, request);
     }
-    Spot::Refused(refused_with(numbers))
+    Err(refused_with(numbers))
 }

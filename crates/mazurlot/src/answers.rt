@@ -6,11 +6,10 @@ ghost use Rattle.basics.specs.Put.{put_all};
 ghost use Rattle.table.specs.Table.{numbers_of};
 ghost use Rattle.state.specs.Flow.{work_bytes};
 ghost use Rattle.lookup.specs.Spots.{answer_at, OnRecord};
-ghost use Rattle.mazurlot.specs.Answers.{said, of_feed, of_finish, of_lookup, slot_after};
+ghost use Rattle.mazurlot.specs.Answers.{said, of_count, of_lookup, slot_after};
 
-use lookup::Spot;
+use machine::Refusal;
 use records::record_at;
-use state::{FeedAnswer, FinishAnswer};
 use table::{NUMBERS, Record};
 
 // How many numbers the answers have: of feed, finish and the whole reader; of a lookup; of a mark.
@@ -75,23 +74,14 @@ pub(crate) fn say_nothing_fed(work: usize, answer: &mut [u64]) -> u64
     NO_STATE
 }
 
-pub(crate) fn say_fed(said: FeedAnswer, answer: &mut [u64]) -> u64
+// What feed and finish say: a count, or a refusal.
+pub(crate) fn say_count(said: Result<u64, Refusal>, answer: &mut [u64]) -> u64
     requires { 1 ≤ length answer.old }
-    ensures { (result ≡ (of_feed said).number) × (answer.new ≡ slot_after (of_feed said) answer.old) }
+    ensures { (result ≡ (of_count said).number) × (answer.new ≡ slot_after (of_count said) answer.old) }
 {
     match said {
-        FeedAnswer::Read(count) => say(0, count, answer),
-        FeedAnswer::Refused(x) => say(x.number, x.place, answer),
-    }
-}
-
-pub(crate) fn say_finished(said: FinishAnswer, answer: &mut [u64]) -> u64
-    requires { 1 ≤ length answer.old }
-    ensures { (result ≡ (of_finish said).number) × (answer.new ≡ slot_after (of_finish said) answer.old) }
-{
-    match said {
-        FinishAnswer::Listed(leaves) => say(0, leaves, answer),
-        FinishAnswer::Refused(x) => say(x.number, x.place, answer),
+        Ok(count) => say(0, count, answer),
+        Err(x) => say(x.number, x.place, answer),
     }
 }
 
@@ -110,18 +100,18 @@ fn put_leaf(answer: &mut [u64], leaf: u64, r: Record)
 }
 
 // What a lookup says that ended at a spot of the table.
-pub(crate) fn say_found(spot: Spot, table: &[u64], answer: &mut [u64]) -> u64
+pub(crate) fn say_found(spot: Result<usize, u64>, table: &[u64], answer: &mut [u64]) -> u64
     requires { (7 ≤ length answer.old) × OnRecord table.now spot }
     ensures { (result ≡ (of_lookup (answer_at table.now spot)).number)
         × (answer.new ≡ slot_after (of_lookup (answer_at table.now spot)) answer.old) }
 {
     match spot {
-        Spot::At(at) => {
+        Ok(at) => {
             let i = at / NUMBERS;
             put_leaf(answer, (i + 1) as u64, record_at(table, i));
             0
         }
-        Spot::Refused(number) => {
+        Err(number) => {
             if number != NO_STATE {
                 put_leaf(answer, 0, NO_RECORD);
             }

@@ -9,13 +9,13 @@ ghost use Rattle.mazurlot.specs.Calls.{call, start_call, feed_call, finish_call,
 
 use crate::accepted::look;
 use crate::answers::{
-    LOOKUP_VALUES, MARK_VALUES, NO_STATE, ONE_VALUE, brand_bytes, say_fed, say_finished, say_found,
+    LOOKUP_VALUES, MARK_VALUES, NO_STATE, ONE_VALUE, brand_bytes, say_count, say_found,
     say_nothing_fed, say_page,
 };
 use crate::states::{put_start, say_ending};
 use feed::{feed, finish};
 use moment::Request;
-use pack::{STATE_NUMBERS, Unpacked, pack, unpack};
+use pack::{STATE_NUMBERS, pack, unpack};
 use whole::whole_ending;
 
 mod accepted;
@@ -47,14 +47,12 @@ pub fn mazurlot_feed(
     if answer.len() < ONE_VALUE {
         return NO_STATE;
     }
-    let Unpacked::Found(s) = unpack(state) else {
+    let Ok(s) = unpack(state) else {
         return say_nothing_fed(work.len(), answer);
     };
-    let after = feed(s, piece, work, table);
-    let said = after.answer;
-    let next = after.state;
-    pack(next, state);
-    say_fed(said, answer)
+    let fed = feed(s, piece, work, table);
+    let _ = pack(fed.state, state);
+    say_count(fed.answer, answer)
 }
 
 // The end of a segment.
@@ -64,14 +62,12 @@ pub fn mazurlot_finish(state: &mut [u64], answer: &mut [u64]) -> u64
     if answer.len() < ONE_VALUE {
         return NO_STATE;
     }
-    let Unpacked::Found(s) = unpack(state) else {
+    let Ok(s) = unpack(state) else {
         return NO_STATE;
     };
-    let after = finish(s);
-    let said = after.answer;
-    let next = after.state;
-    pack(next, state);
-    say_finished(said, answer)
+    let finished = finish(s);
+    let _ = pack(finished.state, state);
+    say_count(finished.answer, answer)
 }
 
 // A whole segment. Where there is no place for the state or the answer, it is not read.

@@ -1,7 +1,6 @@
 // The states that the library makes itself: a reading before its first byte, and one that has ended. The numbers of the latter are few: the rest
 // of the 57 is made 0, and the state itself, which has room for an open reading, is not made.
-ghost use Rattle.std.specs.Prelude.{List, ◌∷◌, ◌≡◌, ℕ, ◌-◌, ◌≤◌, length, replicate};
-ghost use Rattle.basics.specs.Put.{put_all};
+ghost use Rattle.std.specs.Prelude.{List, ◌++◌, ◌≡◌, ℕ, ◌≤◌, length, replicate};
 ghost use Rattle.state.specs.Calls.{start_of};
 ghost use Rattle.whole.specs.Views.{ending_out};
 ghost use Rattle.mazurlot.specs.Calls.{call, read};
@@ -9,7 +8,7 @@ ghost use Rattle.numbered.specs.Numbers.{state_numbers, numbers_of};
 
 use crate::answers::{SHORT_WORK, brand_bytes, say};
 use feed::start;
-use pack::{STATE_NUMBERS, pack};
+use pack::pack;
 use whole::Ending;
 
 // The tags of a refused and of an accepted state.
@@ -23,40 +22,22 @@ pub(crate) const USED: usize = 7;
 // About half of the places.
 const HALF: usize = 32;
 
-// The places from one up to another made 0.
-fn clear(numbers: &mut [u64], from: usize, to: usize)
-    requires { (length numbers.old ≡ state_numbers) × (from ≤ to) × (to ≤ state_numbers) }
-    ensures { numbers.new ≡ put_all numbers.old from (replicate (to - from) 0) }
-{
-    let mut i = from;
-    while i < to {
-        numbers[i] = 0;
-        i += 1;
-    }
-}
-
 // The numbers of a reading that has ended: seven, and zeros behind them. First the far half is cleared, then the numbers are put, then the
 // rest is cleared: each time it is so little that the compiler needs no call for it.
-fn put_ended(numbers: &mut [u64], tag: u64, count: u64, leaves: u64, a: u64, b: u64, c: u64, d: u64)
+fn put_ended(numbers: &mut [u64], used: [u64; 7])
     requires { length numbers.old ≡ state_numbers }
-    ensures { numbers.new ≡ tag ∷ count ∷ leaves ∷ a ∷ b ∷ c ∷ d ∷ replicate 50 0 }
+    ensures { numbers.new ≡ used ++ replicate 50 0 }
 {
-    clear(numbers, HALF, STATE_NUMBERS);
-    numbers[0] = tag;
-    numbers[1] = count;
-    numbers[2] = leaves;
-    numbers[3] = a;
-    numbers[4] = b;
-    numbers[5] = c;
-    numbers[6] = d;
-    clear(numbers, USED, HALF);
+    numbers[HALF..].fill(0);
+    numbers[..USED].copy_from_slice(&used);
+    numbers[USED..HALF].fill(0);
 }
 
 pub(crate) fn put_start(numbers: &mut [u64], brand: u32)
     requires { length numbers.old ≡ state_numbers }
     ensures { numbers.new ≡ numbers_of (start_of brand) }
 {
-    pack(start(brand_bytes(brand)), numbers);
+    let _ = pack(start(brand_bytes(brand)), numbers);
 }
 
 // What the whole reader says and leaves where its reading ended so.
@@ -67,8 +48,7 @@ pub(crate) fn say_ending(ending: Ending, brand: u32, numbers: &mut [u64], answer
 {
     match ending {
         Ending::Accepted(count, leaves, top) => {
-            put_ended(
-                numbers,
+            let used = [
                 ACCEPTED,
                 count,
                 leaves,
@@ -76,11 +56,12 @@ pub(crate) fn say_ending(ending: Ending, brand: u32, numbers: &mut [u64], answer
                 top.scale,
                 top.start,
                 top.durations,
-            );
+            ];
+            put_ended(numbers, used);
             say(0, leaves, answer)
         }
         Ending::Refused(count, leaves, x) => {
-            put_ended(numbers, REFUSED, count, leaves, x.number, x.place, 0, 0);
+            put_ended(numbers, [REFUSED, count, leaves, x.number, x.place, 0, 0]);
             say(x.number, x.place, answer)
         }
         Ending::ShortWork => {

@@ -7,7 +7,13 @@ use borrow.Author.Tests.{eq-eqb, ne_eqb}
 use Rattle.basics.proofs.Picks.{pick_yes, pick_no}
 use Rattle.table.specs.Table.{put_record}
 use Rattle.machine.specs.Run.{go, lift}
+use Rattle.std.specs.Prelude.{Result, Ok}
 use Rattle.machine.specs.declared.Head.TheVariants as at
+use Rattle.machine.specs.declared.Refusal.{Refusal}
+use Rattle.machine.specs.declared.Step.{Step}
+use Rattle.machine.specs.declared.Step.TheVariants as step
+use Rattle.state.specs.Views.{view}
+use Rattle.state.specs.Boxed.{LeafBoxes}
 use Rattle.state.specs.declared.Top.{Top}
 use Rattle.state.specs.declared.Levels.{Levels}
 use Rattle.state.specs.declared.Levels.TheVariants as levels
@@ -21,14 +27,9 @@ use Rattle.state.specs.declared.Stage.TheVariants as stage
 use Rattle.state.specs.Flow.{Flow, with_now, listed}
 use Rattle.state.specs.Calls.{flow_of}
 use Rattle.state.specs.Stages.{follow, top_of, top_level, index_ends, leaf_record, wrap_inner, lift_leaf, lift_inner}
-use Rattle.leaf.specs.Leaf.{view_leaf}
-use Rattle.leaf.specs.declared.LeafStep.TheVariants as leaves
 use Rattle.inner.specs.Views.{inner_phase, view_inner}
-use Rattle.inner.specs.declared.InnerStep.{InnerStep}
-use Rattle.inner.specs.declared.InnerStep.TheVariants as innerStep
 use Rattle.next_stage.specs.declared.Running.{Running}
-use Rattle.next_stage.specs.declared.StageStep.{StageStep}
-use Rattle.next_stage.specs.Views.{flowing, view_stage}
+use Rattle.next_stage.specs.Views.{flowing, StageAnswer, view_stage}
 use Rattle.next_stage.specs.Arms.{table_after}
 
 -- the top index ends: the material follows at once, or the gap does
@@ -43,21 +44,17 @@ module _ (x : IndexRead) (f : Flow) (n : ℕ) where
 
 module _ (top : Top) (ls : Levels) (slot : Slot) (r : Running) (work table : List ℕ) where
   -- a leaf is listed
-  pub leaf_done : (seen : Seen) (p : StageStep) →
+  pub leaf_done : (q : Result (Step LeafBoxes Seen) Refusal) (seen : Seen) (p : StageAnswer) → q ≡ Ok (step.Done seen) →
       view_stage r.leaves work (put_record table r.leaves (leaf_record slot r.now seen.first)) p
       ≡ follow top ls (flow_of (r.leaves + 1) slot.until seen.last work (put_record table r.leaves (leaf_record slot r.now seen.first))) →
-      view_stage r.leaves work (table_after r.leaves slot r.now (leaves.Done seen) table) p ≡ lift_leaf top ls slot (view_leaf (flowing r work table) (leaves.Done seen))
+      view_stage r.leaves work (table_after r.leaves slot r.now q table) p ≡ lift_leaf top ls slot (view (flowing r work table) q)
   unfolding table_after lift listed
-  leaf_done seen p e =
+  leaf_done q seen p is e =
+      rw is (
       e
       ∙ ap (λ (k : ℕ). follow top ls (flow_of k slot.until seen.last work (put_record table r.leaves (leaf_record slot r.now seen.first)))) (add-one r.leaves)
+      )
 
 pub wrap_box : (s : InnerBox) → wrap_inner (inner_phase s) ≡ s
 wrap_box (inners.Head h) = refl
 wrap_box (inners.Body span s) = refl
-
--- a byte of the first box of an index entry that goes on
-module _ (top : Top) (ls : Levels) (slot : Slot) where
-  pub inner_goes : (q : InnerStep) (first : InnerBox) (f : Flow) → q ≡ innerStep.Go first → go (stage.Inner top ls slot first) f ≡ lift_inner top ls slot (view_inner f q)
-  unfolding lift
-  inner_goes q first f e = rw e (ap (λ (s : InnerBox). go (stage.Inner top ls slot s) f) (sym (wrap_box first)))

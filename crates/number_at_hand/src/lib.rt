@@ -1,124 +1,269 @@
 // The number that is being read, whatever the stage: how much of it is read, and the stage with more of it read.
-#![tactic(auto)]
+#![tactic(auto, unfolding(
+// a number's place, and a list of boxes of any kind
+crate::specs::Views::next_place, crate::specs::Views::boxes_number, crate::specs::Views::ReadyBoxes,
+// the numbers of a header and of an index
+state::specs::Numbers::head_number, state::specs::Numbers::sidx_number,
+// of the boxes of a leaf
+state::specs::Numbers::traf_number, state::specs::Numbers::traf_body_number, state::specs::Numbers::moof_number, state::specs::Numbers::moof_body_number,
+// of the leaf, and of the boxes up to the top index
+state::specs::Numbers::leaf_number, state::specs::Numbers::leaf_body_number, state::specs::Numbers::opening_number, state::specs::Numbers::opening_body_number,
+// of the gap and of any stage
+state::specs::Numbers::gap_number, state::specs::Numbers::inner_number, state::specs::Numbers::stage_number,
+// and the ranges of the boxes up to the top index
+state::specs::Ranges::opening_bounds, state::specs::Ranges::opening_body_bounds))]
 
-ghost use Rattle.std.specs.Prelude.{◌≡◌, false};
+ghost use Rattle.std.specs.Prelude.{◌≡◌, None};
 ghost use Rattle.state.specs.Sidx.{Place};
-ghost use Rattle.state.specs.Numbers.{head_number, sidx_number, traf_number, moof_number, leaf_number, opening_number, gap_number, inner_number, stage_number};
-ghost use Rattle.state.specs.declared.Stage.TheVariants as stage;
-ghost use Rattle.state.specs.Ranges.{Within, sidx_bounds, opening_bounds, inner_bounds, stage_bounds};
+ghost use Rattle.state.specs.Numbers.{Number, head_number, sidx_number, traf_body_number, moof_body_number, leaf_body_number, leaf_number, opening_body_number, gap_number};
+ghost use Rattle.state.specs.Numbers.{inner_number, stage_number};
+ghost use Rattle.state.specs.Ranges.{Within, sidx_bounds, opening_body_bounds, inner_bounds, stage_bounds};
 ghost use Rattle.index.specs.Views.{place_of, Shallow};
-ghost use Rattle.number_at_hand.specs.Views.{at_hand_of};
+ghost use Rattle.number_at_hand.specs.Views.{at_hand_of, boxes_number, ReadyBoxes};
 
 use index::{Where, byte_place};
 use levels::depth;
-use machine::Head;
+use machine::{BoxesSo, Head};
 use state::{
-    GapBoxes, InnerBox, LeafBody, LeafBoxes, Levels, MoofBody, MoofBoxes, OpeningBody,
-    OpeningBoxes, Sidx, Slot, Stage, Top, TrafBody, TrafBoxes,
+    GapBoxes, InnerBox, LeafBody, LeafBoxes, Levels, MoofBody, OpeningBody, Sidx, Slot, Stage, Top,
+    TrafBody,
 };
 
-// The number at hand: so many bytes follow its next one, those before it spell `acc`, and where they are stored, its next one goes
-// to `place`.
+// The number at hand: so many bytes follow its next one, those before it spell `acc`, and its next one is stored at `place`, if they are stored.
 #[derive(Clone, Copy)]
 pub struct AtHand {
     pub more: u64,
     pub acc: u64,
-    pub stored: bool,
-    pub place: u64,
+    pub place: Option<u64>,
 }
 
 // No number is being read, or one whose bytes are not stored.
 fn unstored(more: u64, acc: u64) -> AtHand
-    ensures { result ≡ record { more = more; acc = acc; stored = false; place = 0 } }
+    ensures { result ≡ record { more = more; acc = acc; place = None } }
 {
     AtHand {
         more,
         acc,
-        stored: false,
-        place: 0,
+        place: None,
     }
 }
 
-// The number at hand, at each level; and, by `.._again`, what holds it with another `more` and `acc`.
-fn head_number(h: Head) -> AtHand
-    ensures { result ≡ at_hand_of (head_number h) }
+// What holds the number at hand: the number, and what holds it with another `more` and `acc`. The cases of the state have these two as they are, so
+// that a struct of both would be taken apart in each.
+trait Holds: Copy {
+    ghost number_of: { Self → Number Self };
+
+    // what code needs to stay inside its numbers
+    ghost Ready: { Self → Type 0 };
+
+    fn number(self) -> AtHand
+        requires { Ready self }
+        ensures { result ≡ at_hand_of (number_of self) };
+
+    fn again(self, more: u64, acc: u64) -> Self
+        ensures { result ≡ (number_of self).again more acc };
+}
+
+impl Holds for Head {
+    ghost number_of = { head_number };
+
+    ghost Ready = { λ h. Unit {0} };
+
+    fn number(self) -> AtHand {
+        match self {
+            Head::First => unstored(0, 0),
+            Head::Size { more, acc, .. } => unstored(more, acc),
+            Head::Kind { more, acc, .. } => unstored(more, acc),
+            Head::Large { more, acc, .. } => unstored(more, acc),
+        }
+    }
+
+    fn again(self, more: u64, acc: u64) -> Head {
+        match self {
+            Head::First => self,
+            Head::Size { pos, .. } => Head::Size { pos, more, acc },
+            Head::Kind { pos, size, .. } => Head::Kind {
+                pos,
+                size,
+                more,
+                acc,
+            },
+            Head::Large { pos, kind, .. } => Head::Large {
+                pos,
+                kind,
+                more,
+                acc,
+            },
+        }
+    }
+}
+
+// A list of boxes, of whatever body.
+impl<A: Copy, B: Holds> Holds for BoxesSo<A, B> {
+    ghost number_of = { boxes_number B.number_of };
+
+    ghost Ready = { ReadyBoxes B.Ready };
+
+    fn number(self) -> AtHand {
+        match self {
+            BoxesSo::Head(_, h) => h.number(),
+            BoxesSo::Body(_, body) => body.number(),
+        }
+    }
+
+    fn again(self, more: u64, acc: u64) -> BoxesSo<A, B> {
+        match self {
+            BoxesSo::Head(known, h) => BoxesSo::Head(known, h.again(more, acc)),
+            BoxesSo::Body(known, body) => BoxesSo::Body(known, body.again(more, acc)),
+        }
+    }
+}
+
+impl Holds for TrafBody {
+    ghost number_of = { traf_body_number };
+
+    ghost Ready = { λ s. Unit {0} };
+
+    fn number(self) -> AtHand {
+        match self {
+            TrafBody::Skip { .. } | TrafBody::Rest { .. } => unstored(0, 0),
+            TrafBody::Field { more, acc, .. } => unstored(more, acc),
+        }
+    }
+
+    fn again(self, more: u64, acc: u64) -> TrafBody {
+        match self {
+            TrafBody::Skip { .. } | TrafBody::Rest { .. } => self,
+            TrafBody::Field { part, .. } => TrafBody::Field { part, more, acc },
+        }
+    }
+}
+
+impl Holds for MoofBody {
+    ghost number_of = { moof_body_number };
+
+    ghost Ready = { λ s. Unit {0} };
+
+    fn number(self) -> AtHand {
+        match self {
+            MoofBody::Skip { .. } => unstored(0, 0),
+            MoofBody::Traf(_, boxes) => boxes.number(),
+        }
+    }
+
+    fn again(self, more: u64, acc: u64) -> MoofBody {
+        match self {
+            MoofBody::Skip { .. } => self,
+            MoofBody::Traf(span, boxes) => MoofBody::Traf(span, boxes.again(more, acc)),
+        }
+    }
+}
+
+impl Holds for LeafBody {
+    ghost number_of = { leaf_body_number };
+
+    ghost Ready = { λ s. Unit {0} };
+
+    fn number(self) -> AtHand {
+        match self {
+            LeafBody::Skip { .. } => unstored(0, 0), // a box of a leaf
+            LeafBody::Moof { boxes, .. } => boxes.number(),
+        }
+    }
+
+    fn again(self, more: u64, acc: u64) -> LeafBody {
+        match self {
+            LeafBody::Skip { .. } => self,
+            LeafBody::Moof { end, boxes } => LeafBody::Moof {
+                end,
+                boxes: boxes.again(more, acc), // those of a `moof`
+            },
+        }
+    }
+}
+
+impl Holds for OpeningBody {
+    ghost number_of = { opening_body_number };
+
+    ghost Ready = { λ s. Within (opening_body_bounds s) };
+
+    fn number(self) -> AtHand {
+        match self {
+            OpeningBody::Skip { .. } => unstored(0, 0),
+            OpeningBody::Styp { more, acc, .. } => unstored(more, acc),
+            OpeningBody::Index(_, i) => sidx_number(Where::Topmost, i),
+        }
+    }
+
+    fn again(self, more: u64, acc: u64) -> OpeningBody {
+        match self {
+            OpeningBody::Skip { .. } => self,
+            OpeningBody::Styp {
+                span,
+                part,
+                listed,
+                ..
+            } => OpeningBody::Styp {
+                span,
+                part,
+                listed,
+                more,
+                acc,
+            },
+            OpeningBody::Index(span, i) => OpeningBody::Index(span, sidx_again(i, more, acc)),
+        }
+    }
+}
+
+impl Holds for GapBoxes {
+    ghost number_of = { gap_number };
+
+    ghost Ready = { λ s. Unit {0} };
+
+    fn number(self) -> AtHand {
+        match self {
+            GapBoxes::Head(h) => h.number(),
+            GapBoxes::Body { .. } => unstored(0, 0),
+        }
+    }
+
+    fn again(self, more: u64, acc: u64) -> GapBoxes {
+        match self {
+            GapBoxes::Head(h) => GapBoxes::Head(h.again(more, acc)),
+            GapBoxes::Body { .. } => self,
+        }
+    }
+}
+
+pub fn leaf_number(s: LeafBoxes) -> AtHand
+    ensures { result ≡ at_hand_of (leaf_number s) }
 {
-    match h {
-        Head::First => unstored(0, 0),
-        Head::Size { pos: _, more, acc } => unstored(more, acc),
-        Head::Kind {
-            pos: _,
-            size: _,
-            more,
-            acc,
-        } => unstored(more, acc),
-        Head::Large {
-            pos: _,
-            kind: _,
-            more,
-            acc,
-        } => unstored(more, acc),
-    }
+    s.number()
 }
 
-#[tactic(auto, unfolding(state::specs::Numbers::head_number))]
-fn head_again(h: Head, more: u64, acc: u64) -> Head
-    ensures { result ≡ (head_number h).again more acc }
+pub fn leaf_again(s: LeafBoxes, more: u64, acc: u64) -> LeafBoxes
+    ensures { result ≡ (leaf_number s).again more acc }
 {
-    match h {
-        Head::First => h,
-        Head::Size {
-            pos,
-            more: _,
-            acc: _,
-        } => Head::Size { pos, more, acc },
-        Head::Kind {
-            pos,
-            size,
-            more: _,
-            acc: _,
-        } => Head::Kind {
-            pos,
-            size,
-            more,
-            acc,
-        },
-        Head::Large {
-            pos,
-            kind,
-            more: _,
-            acc: _,
-        } => Head::Large {
-            pos,
-            kind,
-            more,
-            acc,
-        },
-    }
+    s.again(more, acc)
 }
 
+// The number of an index hangs on where the index stands.
 fn sidx_number(p: Where, s: Sidx) -> AtHand
     requires { Shallow p × Within (sidx_bounds s) }
     ensures { result ≡ at_hand_of (sidx_number (place_of p) s) }
 {
     match s {
-        Sidx::Field {
-            part: _,
-            draft: _,
-            more,
-            acc,
-        } => unstored(more, acc),
+        Sidx::Field { more, acc, .. } => unstored(more, acc),
         Sidx::Entry {
             part,
-            draft: _,
             sums,
             more,
             acc,
+            ..
         } => AtHand {
             more,
             acc,
-            stored: true,
-            place: byte_place(p, part, sums, more),
+            place: Some(byte_place(p, part, sums, more)),
         },
     }
 }
@@ -127,12 +272,7 @@ fn sidx_again(s: Sidx, more: u64, acc: u64) -> Sidx
     ensures { (p : Place) → result ≡ (sidx_number p s).again more acc }
 {
     match s {
-        Sidx::Field {
-            part,
-            draft,
-            more: _,
-            acc: _,
-        } => Sidx::Field {
+        Sidx::Field { part, draft, .. } => Sidx::Field {
             part,
             draft,
             more,
@@ -142,8 +282,7 @@ fn sidx_again(s: Sidx, more: u64, acc: u64) -> Sidx
             part,
             draft,
             sums,
-            more: _,
-            acc: _,
+            ..
         } => Sidx::Entry {
             part,
             draft,
@@ -154,175 +293,12 @@ fn sidx_again(s: Sidx, more: u64, acc: u64) -> Sidx
     }
 }
 
-fn traf_number(s: TrafBoxes) -> AtHand
-    ensures { result ≡ at_hand_of (traf_number s) }
-{
-    match s {
-        TrafBoxes::Head(_, h) => head_number(h),
-        TrafBoxes::Body(_, body) => match body {
-            TrafBody::Skip { stop: _ } => unstored(0, 0),
-            TrafBody::Rest {
-                stop: _,
-                reference: _,
-            } => unstored(0, 0),
-            TrafBody::Field { part: _, more, acc } => unstored(more, acc),
-        },
-    }
-}
-
-fn traf_again(s: TrafBoxes, more: u64, acc: u64) -> TrafBoxes
-    ensures { result ≡ (traf_number s).again more acc }
-{
-    match s {
-        TrafBoxes::Head(so, h) => TrafBoxes::Head(so, head_again(h, more, acc)),
-        TrafBoxes::Body(so, body) => match body {
-            TrafBody::Skip { stop: _ } => s,
-            TrafBody::Rest {
-                stop: _,
-                reference: _,
-            } => s,
-            TrafBody::Field {
-                part,
-                more: _,
-                acc: _,
-            } => TrafBoxes::Body(so, TrafBody::Field { part, more, acc }),
-        },
-    }
-}
-
-fn moof_number(s: MoofBoxes) -> AtHand
-    ensures { result ≡ at_hand_of (moof_number s) }
-{
-    match s {
-        MoofBoxes::Head(_, h) => head_number(h),
-        MoofBoxes::Body(_, body) => match body {
-            MoofBody::Skip { stop: _ } => unstored(0, 0),
-            MoofBody::Traf(_, boxes) => traf_number(boxes),
-        },
-    }
-}
-
-fn moof_again(s: MoofBoxes, more: u64, acc: u64) -> MoofBoxes
-    ensures { result ≡ (moof_number s).again more acc }
-{
-    match s {
-        MoofBoxes::Head(seen, h) => MoofBoxes::Head(seen, head_again(h, more, acc)),
-        MoofBoxes::Body(seen, body) => match body {
-            MoofBody::Skip { stop: _ } => s,
-            MoofBody::Traf(span, boxes) => MoofBoxes::Body(
-                seen,
-                MoofBody::Traf(span, traf_again(boxes, more, acc)),
-            ),
-        },
-    }
-}
-
-pub fn leaf_number(s: LeafBoxes) -> AtHand
-    ensures { result ≡ at_hand_of (leaf_number s) }
-{
-    match s {
-        LeafBoxes::Head(_, h) => head_number(h),
-        LeafBoxes::Body(_, body) => match body {
-            LeafBody::Skip { stop: _ } => unstored(0, 0),
-            LeafBody::Moof { end: _, boxes } => moof_number(boxes),
-        },
-    }
-}
-
-pub fn leaf_again(s: LeafBoxes, more: u64, acc: u64) -> LeafBoxes
-    ensures { result ≡ (leaf_number s).again more acc }
-{
-    match s {
-        LeafBoxes::Head(so, h) => LeafBoxes::Head(so, head_again(h, more, acc)),
-        LeafBoxes::Body(so, body) => match body {
-            LeafBody::Skip { stop: _ } => s,
-            LeafBody::Moof { end, boxes } => LeafBoxes::Body(
-                so,
-                LeafBody::Moof {
-                    end,
-                    boxes: moof_again(boxes, more, acc),
-                },
-            ),
-        },
-    }
-}
-
-fn opening_number(s: OpeningBoxes) -> AtHand
-    requires { Within (opening_bounds s) }
-    ensures { result ≡ at_hand_of (opening_number s) }
-{
-    match s {
-        OpeningBoxes::Head(_, h) => head_number(h),
-        OpeningBoxes::Body(_, body) => match body {
-            OpeningBody::Skip { stop: _ } => unstored(0, 0),
-            OpeningBody::Styp {
-                span: _,
-                part: _,
-                listed: _,
-                more,
-                acc,
-            } => unstored(more, acc),
-            OpeningBody::Index(_, i) => sidx_number(Where::Topmost, i),
-        },
-    }
-}
-
-fn opening_again(s: OpeningBoxes, more: u64, acc: u64) -> OpeningBoxes
-    ensures { result ≡ (opening_number s).again more acc }
-{
-    match s {
-        OpeningBoxes::Head(branded, h) => OpeningBoxes::Head(branded, head_again(h, more, acc)),
-        OpeningBoxes::Body(branded, body) => match body {
-            OpeningBody::Skip { stop: _ } => s,
-            OpeningBody::Styp {
-                span,
-                part,
-                listed,
-                more: _,
-                acc: _,
-            } => OpeningBoxes::Body(
-                branded,
-                OpeningBody::Styp {
-                    span,
-                    part,
-                    listed,
-                    more,
-                    acc,
-                },
-            ),
-            OpeningBody::Index(span, i) => OpeningBoxes::Body(
-                branded,
-                OpeningBody::Index(span, sidx_again(i, more, acc)),
-            ),
-        },
-    }
-}
-
-fn gap_number(s: GapBoxes) -> AtHand
-    ensures { result ≡ at_hand_of (gap_number s) }
-{
-    match s {
-        GapBoxes::Head(h) => head_number(h),
-        GapBoxes::Body { stop: _ } => unstored(0, 0),
-    }
-}
-
-#[tactic(auto, unfolding(state::specs::Numbers::gap_number))]
-fn gap_again(s: GapBoxes, more: u64, acc: u64) -> GapBoxes
-    ensures { result ≡ (gap_number s).again more acc }
-{
-    match s {
-        GapBoxes::Head(h) => GapBoxes::Head(head_again(h, more, acc)),
-        GapBoxes::Body { stop: _ } => s,
-    }
-}
-
 fn inner_number(top: Top, ls: Levels, slot: Slot, s: InnerBox) -> AtHand
     requires { Within (inner_bounds ls s) }
     ensures { result ≡ at_hand_of (inner_number top ls slot s) }
 {
     match s {
-        InnerBox::Head(h) => head_number(h),
+        InnerBox::Head(h) => h.number(),
         InnerBox::Body(_, i) => sidx_number(Where::Under(top, slot, depth(ls)), i),
     }
 }
@@ -331,7 +307,7 @@ fn inner_again(s: InnerBox, more: u64, acc: u64) -> InnerBox
     ensures { (top : Top) (ls : Levels) (slot : Slot) → result ≡ (inner_number top ls slot s).again more acc }
 {
     match s {
-        InnerBox::Head(h) => InnerBox::Head(head_again(h, more, acc)),
+        InnerBox::Head(h) => InnerBox::Head(h.again(more, acc)),
         InnerBox::Body(span, i) => InnerBox::Body(span, sidx_again(i, more, acc)),
     }
 }
@@ -342,20 +318,10 @@ pub fn stage_number(s: Stage, now: u64) -> AtHand
     ensures { result ≡ at_hand_of (stage_number s) }
 {
     match s {
-        Stage::Opening { brand: _, boxes } => opening_number(boxes),
-        Stage::Gap {
-            top: _,
-            level: _,
-            end: _,
-            boxes,
-        } => gap_number(boxes),
-        Stage::Entry { top: _, levels: _ } => unstored(0, 0),
-        Stage::Leaf {
-            top: _,
-            levels: _,
-            slot: _,
-            boxes,
-        } => leaf_number(boxes),
+        Stage::Opening { boxes, .. } => boxes.number(),
+        Stage::Gap { boxes, .. } => boxes.number(),
+        Stage::Entry { .. } => unstored(0, 0),
+        Stage::Leaf { boxes, .. } => leaf_number(boxes),
         Stage::Inner {
             top,
             levels,
@@ -365,26 +331,14 @@ pub fn stage_number(s: Stage, now: u64) -> AtHand
     }
 }
 
-fn in_leaf(top: Top, levels: Levels, slot: Slot, boxes: LeafBoxes) -> Stage
-    ensures { result ≡ stage.Leaf top levels slot boxes }
-{
-    Stage::Leaf {
-        top,
-        levels,
-        slot,
-        boxes,
-    }
-}
-
 // The stage with its number read so far that `more` bytes follow the next one and those before it spell `acc`.
-#[tactic(auto, unfolding(state::specs::Numbers::stage_number))]
 pub fn stage_again(s: Stage, more: u64, acc: u64) -> Stage
     ensures { result ≡ (stage_number s).again more acc }
 {
     match s {
         Stage::Opening { brand, boxes } => Stage::Opening {
             brand,
-            boxes: opening_again(boxes, more, acc),
+            boxes: boxes.again(more, acc),
         },
         Stage::Gap {
             top,
@@ -395,15 +349,20 @@ pub fn stage_again(s: Stage, more: u64, acc: u64) -> Stage
             top,
             level,
             end,
-            boxes: gap_again(boxes, more, acc),
+            boxes: boxes.again(more, acc),
         },
-        Stage::Entry { top: _, levels: _ } => s,
+        Stage::Entry { .. } => s,
         Stage::Leaf {
             top,
             levels,
             slot,
             boxes,
-        } => in_leaf(top, levels, slot, leaf_again(boxes, more, acc)),
+        } => Stage::Leaf {
+            top,
+            levels,
+            slot,
+            boxes: leaf_again(boxes, more, acc),
+        },
         Stage::Inner {
             top,
             levels,

@@ -14,11 +14,9 @@ use Rattle.state.specs.declared.InnerBox.TheVariants as inners
 use Rattle.state.specs.declared.TrafPhase.TheVariants as track
 use Rattle.state.specs.declared.TrafPart.TheVariants as trafPart
 use Rattle.state.specs.declared.TrafBody.TheVariants as trafs
-use Rattle.state.specs.declared.TrafBoxes.TheVariants as trafBox
+use Rattle.machine.specs.declared.BoxesSo.TheVariants as inBoxes
 use Rattle.state.specs.declared.MoofBody.TheVariants as moofs
-use Rattle.state.specs.declared.MoofBoxes.TheVariants as moofBox
 use Rattle.state.specs.declared.LeafBody.TheVariants as leaves
-use Rattle.state.specs.declared.LeafBoxes.TheVariants as leafBox
 use Rattle.state.specs.declared.Stage.TheVariants as stage
 use Rattle.state.specs.declared.State.{State}
 use Rattle.state.specs.declared.State.TheVariants as state
@@ -49,11 +47,11 @@ in_leaf =
     (stage.Leaf (record { id = 106; scale = 107; start = 108; durations = 109 })
     (levels.Two (record { next = 111; count = 112; end = 113; until = 114 }) (record { next = 115; count = 116; end = 117; until = 118 }))
     (record { pos = 127; end = 128; until = 129; sap = 130 })
-    (leafBox.Body (record { moof = true; seen = record { any = false; first = 134; last = 135 } })
+    (inBoxes.Body (record { moof = true; seen = record { any = false; first = 134; last = 135 } })
     (leaves.Moof 137
-    (moofBox.Body (record { any = true; first = 140; last = 141 })
+    (inBoxes.Body (record { any = true; first = 140; last = 141 })
     (moofs.Traf (record { pos = 143; end = 144 })
-    (trafBox.Body (record { track = track.Headed true; seen = record { any = false; first = 149; last = 150 } })
+    (inBoxes.Body (record { track = track.Headed true; seen = record { any = false; first = 149; last = 150 } })
     (trafs.Field (trafPart.Time 153) 155 156)))))))
 
 pub leaf_numbers :

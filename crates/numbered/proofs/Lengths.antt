@@ -25,8 +25,8 @@ use Rattle.state.specs.declared.Sidx.{Sidx}
 use Rattle.state.specs.declared.Sidx.TheVariants as sidx
 use Rattle.state.specs.declared.OpeningBody.{OpeningBody}
 use Rattle.state.specs.declared.OpeningBody.TheVariants as openings
-use Rattle.state.specs.declared.OpeningBoxes.{OpeningBoxes}
-use Rattle.state.specs.declared.OpeningBoxes.TheVariants as openingBox
+use Rattle.state.specs.Boxed.{OpeningBoxes}
+use Rattle.machine.specs.declared.BoxesSo.TheVariants as inBoxes
 use Rattle.state.specs.declared.GapBoxes.{GapBoxes}
 use Rattle.state.specs.declared.GapBoxes.TheVariants as gaps
 use Rattle.state.specs.declared.InnerBox.{InnerBox}
@@ -38,17 +38,14 @@ use Rattle.state.specs.declared.TrafPart.{TrafPart}
 use Rattle.state.specs.declared.TrafPart.TheVariants as trafPart
 use Rattle.state.specs.declared.TrafBody.{TrafBody}
 use Rattle.state.specs.declared.TrafBody.TheVariants as trafs
-use Rattle.state.specs.declared.TrafBoxes.{TrafBoxes}
-use Rattle.state.specs.declared.TrafBoxes.TheVariants as trafBox
+use Rattle.state.specs.Boxed.{TrafBoxes}
 use Rattle.state.specs.declared.MoofBody.{MoofBody}
 use Rattle.state.specs.declared.MoofBody.TheVariants as moofs
-use Rattle.state.specs.declared.MoofBoxes.{MoofBoxes}
-use Rattle.state.specs.declared.MoofBoxes.TheVariants as moofBox
+use Rattle.state.specs.Boxed.{MoofBoxes}
 use Rattle.state.specs.declared.LeafSo.{LeafSo}
 use Rattle.state.specs.declared.LeafBody.{LeafBody}
 use Rattle.state.specs.declared.LeafBody.TheVariants as leaves
-use Rattle.state.specs.declared.LeafBoxes.{LeafBoxes}
-use Rattle.state.specs.declared.LeafBoxes.TheVariants as leafBox
+use Rattle.state.specs.Boxed.{LeafBoxes}
 use Rattle.state.specs.declared.Stage.{Stage}
 use Rattle.state.specs.declared.Stage.TheVariants as stage
 use Rattle.state.specs.declared.State.{State}
@@ -76,28 +73,28 @@ levels_length (levels.Two a b) = omega arith
 levels_length (levels.Three a b c) = omega arith
 levels_length (levels.Four a b c d) = omega arith
 
-sidx_length : (s : Sidx) → length (sidx_numbers s) ≤ 13
+pub sidx_length : (s : Sidx) → length (sidx_numbers s) ≤ 13
 unfolding sidx_numbers
 sidx_length (sidx.Field p d more acc) = omega arith
 sidx_length (sidx.Entry p d s more acc) = omega arith
 
-opening_body_length : (b : OpeningBody) → length (opening_body_numbers b) ≤ 16
+pub opening_body_length : (b : OpeningBody) → length (opening_body_numbers b) ≤ 16
 unfolding opening_body_numbers
 opening_body_length (openings.Skip stop) = omega arith
 opening_body_length (openings.Styp span p listed more acc) = omega arith
 opening_body_length (openings.Index span s) = omega (arith, sidx_length s)
 
-opening_length : (b : OpeningBoxes) → length (opening_numbers b) ≤ 18
+pub opening_length : (b : OpeningBoxes) → length (opening_numbers b) ≤ 18
 unfolding opening_numbers
-opening_length (openingBox.Head typed h) = omega (arith, head_length h)
-opening_length (openingBox.Body typed b) = omega (arith, opening_body_length b)
+opening_length (inBoxes.Head typed h) = omega (arith, head_length h)
+opening_length (inBoxes.Body typed b) = omega (arith, opening_body_length b)
 
-gap_length : (b : GapBoxes) → length (gap_numbers b) ≤ 6
+pub gap_length : (b : GapBoxes) → length (gap_numbers b) ≤ 6
 unfolding gap_numbers
 gap_length (gaps.Head h) = omega (arith, head_length h)
 gap_length (gaps.Body stop) = omega arith
 
-inner_length : (b : InnerBox) → length (inner_numbers b) ≤ 16
+pub inner_length : (b : InnerBox) → length (inner_numbers b) ≤ 16
 unfolding inner_numbers
 inner_length (inners.Head h) = omega (arith, head_length h)
 inner_length (inners.Body span s) = omega (arith, sidx_length s)
@@ -121,7 +118,7 @@ so_length so =
     length-append (padded 2 (traf_phase_numbers so.track)) (seen_numbers so.seen)
     ∙ rw (padded_length 2 (traf_phase_numbers so.track) (phase_length so.track))
 
-traf_body_length : (b : TrafBody) → length (traf_body_numbers b) ≤ 6
+pub traf_body_length : (b : TrafBody) → length (traf_body_numbers b) ≤ 6
 unfolding traf_body_numbers
 traf_body_length (trafs.Skip stop) = omega arith
 traf_body_length (trafs.Rest stop reference) = omega arith
@@ -130,30 +127,30 @@ traf_body_length (trafs.Field p more acc) =
     length-append (padded 3 (traf_part_numbers p)) (more ∷ acc ∷ []) ∙ rw (padded_length 3 (traf_part_numbers p) (part_length p)) in
     omega (arith, e)
 
-traf_length : (t : TrafBoxes) → length (traf_numbers t) ≤ 12
+pub traf_length : (t : TrafBoxes) → length (traf_numbers t) ≤ 12
 unfolding traf_numbers
-traf_length (trafBox.Head so h) = omega (arith, length-append (traf_so_numbers so) (head_numbers h), so_length so, head_length h)
-traf_length (trafBox.Body so b) = omega (arith, length-append (traf_so_numbers so) (traf_body_numbers b), so_length so, traf_body_length b)
+traf_length (inBoxes.Head so h) = omega (arith, length-append (traf_so_numbers so) (head_numbers h), so_length so, head_length h)
+traf_length (inBoxes.Body so b) = omega (arith, length-append (traf_so_numbers so) (traf_body_numbers b), so_length so, traf_body_length b)
 
-moof_body_length : (b : MoofBody) → length (moof_body_numbers b) ≤ 15
+pub moof_body_length : (b : MoofBody) → length (moof_body_numbers b) ≤ 15
 unfolding moof_body_numbers
 moof_body_length (moofs.Skip stop) = omega arith
 moof_body_length (moofs.Traf span t) = omega (arith, traf_length t)
 
-moof_length : (b : MoofBoxes) → length (moof_numbers b) ≤ 19
+pub moof_length : (b : MoofBoxes) → length (moof_numbers b) ≤ 19
 unfolding moof_numbers
-moof_length (moofBox.Head seen h) = omega (arith, head_length h)
-moof_length (moofBox.Body seen b) = omega (arith, moof_body_length b)
+moof_length (inBoxes.Head seen h) = omega (arith, head_length h)
+moof_length (inBoxes.Body seen b) = omega (arith, moof_body_length b)
 
-leaf_body_length : (b : LeafBody) → length (leaf_body_numbers b) ≤ 21
+pub leaf_body_length : (b : LeafBody) → length (leaf_body_numbers b) ≤ 21
 unfolding leaf_body_numbers
 leaf_body_length (leaves.Skip stop) = omega arith
 leaf_body_length (leaves.Moof end boxes) = omega (arith, moof_length boxes)
 
-leaf_length : (b : LeafBoxes) → length (leaf_numbers b) ≤ 26
+pub leaf_length : (b : LeafBoxes) → length (leaf_numbers b) ≤ 26
 unfolding leaf_numbers
-leaf_length (leafBox.Head so h) = omega (arith, head_length h)
-leaf_length (leafBox.Body so b) = omega (arith, leaf_body_length b)
+leaf_length (inBoxes.Head so h) = omega (arith, head_length h)
+leaf_length (inBoxes.Body so b) = omega (arith, leaf_body_length b)
 
 -- a tag and what all stages after the gap hold; the same with an entry's numbers
 pub nested_numbers_lem : (t : Top) (ls : Levels) → length (nested_numbers t ls) ≡ 21
@@ -165,7 +162,7 @@ in_entry_numbers t ls slot = length-append (nested_numbers t ls) (slot_numbers s
 nested_length : (t : Top) (ls : Levels) (slot : Slot) (xs : List ℕ) → length (nested_numbers t ls ++ slot_numbers slot ++ xs) ≡ 25 + length xs
 nested_length t ls slot xs = length-append (nested_numbers t ls ++ slot_numbers slot) xs ∙ rw (in_entry_numbers t ls slot)
 
-stage_length : (s : Stage) → length (stage_numbers s) ≤ 52
+pub stage_length : (s : Stage) → length (stage_numbers s) ≤ 52
 unfolding stage_numbers
 stage_length (stage.Opening brand boxes) = omega (arith, opening_length boxes)
 stage_length (stage.Gap t l end boxes) = omega (arith, gap_length boxes)

@@ -28,8 +28,8 @@ use Rattle.state.specs.declared.Sidx.{Sidx}
 use Rattle.state.specs.declared.Sidx.TheVariants as sidx
 use Rattle.state.specs.declared.OpeningBody.{OpeningBody}
 use Rattle.state.specs.declared.OpeningBody.TheVariants as openings
-use Rattle.state.specs.declared.OpeningBoxes.{OpeningBoxes}
-use Rattle.state.specs.declared.OpeningBoxes.TheVariants as openingBox
+use Rattle.state.specs.Boxed.{OpeningBoxes}
+use Rattle.machine.specs.declared.BoxesSo.TheVariants as inBoxes
 use Rattle.state.specs.declared.GapBoxes.{GapBoxes}
 use Rattle.state.specs.declared.GapBoxes.TheVariants as gaps
 use Rattle.state.specs.declared.InnerBox.{InnerBox}
@@ -41,17 +41,14 @@ use Rattle.state.specs.declared.TrafPart.{TrafPart}
 use Rattle.state.specs.declared.TrafPart.TheVariants as trafPart
 use Rattle.state.specs.declared.TrafBody.{TrafBody}
 use Rattle.state.specs.declared.TrafBody.TheVariants as trafs
-use Rattle.state.specs.declared.TrafBoxes.{TrafBoxes}
-use Rattle.state.specs.declared.TrafBoxes.TheVariants as trafBox
+use Rattle.state.specs.Boxed.{TrafBoxes}
 use Rattle.state.specs.declared.MoofBody.{MoofBody}
 use Rattle.state.specs.declared.MoofBody.TheVariants as moofs
-use Rattle.state.specs.declared.MoofBoxes.{MoofBoxes}
-use Rattle.state.specs.declared.MoofBoxes.TheVariants as moofBox
+use Rattle.state.specs.Boxed.{MoofBoxes}
 use Rattle.state.specs.declared.LeafSo.{LeafSo}
 use Rattle.state.specs.declared.LeafBody.{LeafBody}
 use Rattle.state.specs.declared.LeafBody.TheVariants as leaves
-use Rattle.state.specs.declared.LeafBoxes.{LeafBoxes}
-use Rattle.state.specs.declared.LeafBoxes.TheVariants as leafBox
+use Rattle.state.specs.Boxed.{LeafBoxes}
 use Rattle.state.specs.declared.Stage.{Stage}
 use Rattle.state.specs.declared.Stage.TheVariants as stage
 use Rattle.state.specs.declared.State.{State}
@@ -126,8 +123,8 @@ opening_body_back (openings.Index span s) rest = rw (sidx_back s rest)
 
 opening_back : (b : OpeningBoxes) (rest : List ℕ) → opening_of (opening_numbers b ++ rest) ≡ b
 unfolding opening_numbers of_two pick
-opening_back (openingBox.Head typed h) rest = rw (flag_back typed, head_back h rest)
-opening_back (openingBox.Body typed b) rest = rw (flag_back typed, opening_body_back b rest)
+opening_back (inBoxes.Head typed h) rest = rw (flag_back typed, head_back h rest)
+opening_back (inBoxes.Body typed b) rest = rw (flag_back typed, opening_body_back b rest)
 
 gap_back : (b : GapBoxes) (rest : List ℕ) → gap_of (gap_numbers b ++ rest) ≡ b
 unfolding gap_numbers of_two pick
@@ -179,9 +176,9 @@ after_so so rest = by so.track
 
 traf_back : (t : TrafBoxes) (rest : List ℕ) → traf_of (traf_numbers t ++ rest) ≡ t
 unfolding traf_numbers of_two pick
-traf_back (trafBox.Head so h) rest =
+traf_back (inBoxes.Head so h) rest =
     rw (append_assoc (traf_so_numbers so) (head_numbers h) rest, after_so so (head_numbers h ++ rest), traf_so_back so (head_numbers h ++ rest), head_back h rest)
-traf_back (trafBox.Body so b) rest =
+traf_back (inBoxes.Body so b) rest =
     rw (append_assoc (traf_so_numbers so) (traf_body_numbers b) rest, after_so so (traf_body_numbers b ++ rest), traf_so_back so (traf_body_numbers b ++ rest), traf_body_back b rest)
 
 moof_body_back : (b : MoofBody) (rest : List ℕ) → moof_body_of (moof_body_numbers b ++ rest) ≡ b
@@ -191,8 +188,8 @@ moof_body_back (moofs.Traf span t) rest = rw (traf_back t rest)
 
 moof_back : (b : MoofBoxes) (rest : List ℕ) → moof_of (moof_numbers b ++ rest) ≡ b
 unfolding moof_numbers of_two pick
-moof_back (moofBox.Head seen h) rest = rw (flag_back seen.any, head_back h rest)
-moof_back (moofBox.Body seen b) rest = rw (flag_back seen.any, moof_body_back b rest)
+moof_back (inBoxes.Head seen h) rest = rw (flag_back seen.any, head_back h rest)
+moof_back (inBoxes.Body seen b) rest = rw (flag_back seen.any, moof_body_back b rest)
 
 leaf_body_back : (b : LeafBody) (rest : List ℕ) → leaf_body_of (leaf_body_numbers b ++ rest) ≡ b
 unfolding leaf_body_numbers of_two pick
@@ -201,8 +198,8 @@ leaf_body_back (leaves.Moof end boxes) rest = rw (moof_back boxes rest)
 
 leaf_back : (b : LeafBoxes) (rest : List ℕ) → leaf_of (leaf_numbers b ++ rest) ≡ b
 unfolding leaf_numbers of_two pick
-leaf_back (leafBox.Head so h) rest = rw (flag_back so.moof, flag_back so.seen.any, head_back h rest)
-leaf_back (leafBox.Body so b) rest = rw (flag_back so.moof, flag_back so.seen.any, leaf_body_back b rest)
+leaf_back (inBoxes.Head so h) rest = rw (flag_back so.moof, flag_back so.seen.any, head_back h rest)
+leaf_back (inBoxes.Body so b) rest = rw (flag_back so.moof, flag_back so.seen.any, leaf_body_back b rest)
 
 -- what follows the levels' block
 after_levels : (ls : Levels) (rest : List ℕ) → drop 17 (padded 17 (levels_numbers ls) ++ rest) ≡ rest

@@ -24,8 +24,8 @@ use Rattle.state.specs.declared.Sidx.{Sidx}
 use Rattle.state.specs.declared.Sidx.TheVariants as sidx
 use Rattle.state.specs.declared.OpeningBody.{OpeningBody}
 use Rattle.state.specs.declared.OpeningBody.TheVariants as openings
-use Rattle.state.specs.declared.OpeningBoxes.{OpeningBoxes}
-use Rattle.state.specs.declared.OpeningBoxes.TheVariants as openingBox
+use Rattle.state.specs.Boxed.{OpeningBoxes}
+use Rattle.machine.specs.declared.BoxesSo.TheVariants as inBoxes
 use Rattle.state.specs.declared.GapBoxes.{GapBoxes}
 use Rattle.state.specs.declared.GapBoxes.TheVariants as gaps
 use Rattle.state.specs.declared.InnerBox.{InnerBox}
@@ -37,17 +37,14 @@ use Rattle.state.specs.declared.TrafPart.{TrafPart}
 use Rattle.state.specs.declared.TrafPart.TheVariants as trafPart
 use Rattle.state.specs.declared.TrafBody.{TrafBody}
 use Rattle.state.specs.declared.TrafBody.TheVariants as trafs
-use Rattle.state.specs.declared.TrafBoxes.{TrafBoxes}
-use Rattle.state.specs.declared.TrafBoxes.TheVariants as trafBox
+use Rattle.state.specs.Boxed.{TrafBoxes}
 use Rattle.state.specs.declared.MoofBody.{MoofBody}
 use Rattle.state.specs.declared.MoofBody.TheVariants as moofs
-use Rattle.state.specs.declared.MoofBoxes.{MoofBoxes}
-use Rattle.state.specs.declared.MoofBoxes.TheVariants as moofBox
+use Rattle.state.specs.Boxed.{MoofBoxes}
 use Rattle.state.specs.declared.LeafSo.{LeafSo}
 use Rattle.state.specs.declared.LeafBody.{LeafBody}
 use Rattle.state.specs.declared.LeafBody.TheVariants as leaves
-use Rattle.state.specs.declared.LeafBoxes.{LeafBoxes}
-use Rattle.state.specs.declared.LeafBoxes.TheVariants as leafBox
+use Rattle.state.specs.Boxed.{LeafBoxes}
 use Rattle.state.specs.declared.Stage.{Stage}
 use Rattle.state.specs.declared.Stage.TheVariants as stage
 use Rattle.state.specs.declared.State.{State}
@@ -127,7 +124,7 @@ opening_body_of ns =
     of_three (at ns 0) (openings.Skip (at ns 1)) (openings.Styp span (styp_part_of (at ns 3)) (flag_at ns 4) (at ns 5) (at ns 6)) (openings.Index span (sidx_of (drop 3 ns)))
 
 abbrev pub opening_of : List ℕ → OpeningBoxes
-opening_of ns = of_two (at ns 0) (openingBox.Head (flag_at ns 1) (head_of (drop 2 ns))) (openingBox.Body (flag_at ns 1) (opening_body_of (drop 2 ns)))
+opening_of ns = of_two (at ns 0) (inBoxes.Head (flag_at ns 1) (head_of (drop 2 ns))) (inBoxes.Body (flag_at ns 1) (opening_body_of (drop 2 ns)))
 
 abbrev pub gap_of : List ℕ → GapBoxes
 gap_of ns = of_two (at ns 0) (gaps.Head (head_of (drop 1 ns))) (gaps.Body (at ns 1))
@@ -151,13 +148,13 @@ traf_body_of ns = of_three (at ns 0) (trafs.Skip (at ns 1)) (trafs.Rest (at ns 1
 abbrev pub traf_of : List ℕ → TrafBoxes
 traf_of ns =
     let so : TrafSo = traf_so_of (drop 1 ns) in
-    of_two (at ns 0) (trafBox.Head so (head_of (drop 6 ns))) (trafBox.Body so (traf_body_of (drop 6 ns)))
+    of_two (at ns 0) (inBoxes.Head so (head_of (drop 6 ns))) (inBoxes.Body so (traf_body_of (drop 6 ns)))
 
 abbrev pub moof_body_of : List ℕ → MoofBody
 moof_body_of ns = of_two (at ns 0) (moofs.Skip (at ns 1)) (moofs.Traf (span_of (drop 1 ns)) (traf_of (drop 3 ns)))
 
 abbrev pub moof_of : List ℕ → MoofBoxes
-moof_of ns = of_two (at ns 0) (moofBox.Head (seen_of (drop 1 ns)) (head_of (drop 4 ns))) (moofBox.Body (seen_of (drop 1 ns)) (moof_body_of (drop 4 ns)))
+moof_of ns = of_two (at ns 0) (inBoxes.Head (seen_of (drop 1 ns)) (head_of (drop 4 ns))) (inBoxes.Body (seen_of (drop 1 ns)) (moof_body_of (drop 4 ns)))
 
 abbrev pub leaf_body_of : List ℕ → LeafBody
 leaf_body_of ns = of_two (at ns 0) (leaves.Skip (at ns 1)) (leaves.Moof (at ns 1) (moof_of (drop 2 ns)))
@@ -166,7 +163,7 @@ abbrev pub leaf_so_of : List ℕ → LeafSo
 leaf_so_of ns = record { moof = flag_at ns 0; seen = seen_of (drop 1 ns) }
 
 abbrev pub leaf_of : List ℕ → LeafBoxes
-leaf_of ns = of_two (at ns 0) (leafBox.Head (leaf_so_of (drop 1 ns)) (head_of (drop 5 ns))) (leafBox.Body (leaf_so_of (drop 1 ns)) (leaf_body_of (drop 5 ns)))
+leaf_of ns = of_two (at ns 0) (inBoxes.Head (leaf_so_of (drop 1 ns)) (head_of (drop 5 ns))) (inBoxes.Body (leaf_so_of (drop 1 ns)) (leaf_body_of (drop 5 ns)))
 
 abbrev pub opening_stage_of : List ℕ → Stage
 opening_stage_of ns = stage.Opening (at ns 1) (opening_of (drop 2 ns))

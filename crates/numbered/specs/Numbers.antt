@@ -23,8 +23,8 @@ use Rattle.state.specs.declared.Sidx.{Sidx}
 use Rattle.state.specs.declared.Sidx.TheVariants as sidx
 use Rattle.state.specs.declared.OpeningBody.{OpeningBody}
 use Rattle.state.specs.declared.OpeningBody.TheVariants as openings
-use Rattle.state.specs.declared.OpeningBoxes.{OpeningBoxes}
-use Rattle.state.specs.declared.OpeningBoxes.TheVariants as openingBox
+use Rattle.state.specs.Boxed.{OpeningBoxes}
+use Rattle.machine.specs.declared.BoxesSo.TheVariants as inBoxes
 use Rattle.state.specs.declared.GapBoxes.{GapBoxes}
 use Rattle.state.specs.declared.GapBoxes.TheVariants as gaps
 use Rattle.state.specs.declared.InnerBox.{InnerBox}
@@ -36,17 +36,14 @@ use Rattle.state.specs.declared.TrafPart.{TrafPart}
 use Rattle.state.specs.declared.TrafPart.TheVariants as trafPart
 use Rattle.state.specs.declared.TrafBody.{TrafBody}
 use Rattle.state.specs.declared.TrafBody.TheVariants as trafs
-use Rattle.state.specs.declared.TrafBoxes.{TrafBoxes}
-use Rattle.state.specs.declared.TrafBoxes.TheVariants as trafBox
+use Rattle.state.specs.Boxed.{TrafBoxes}
 use Rattle.state.specs.declared.MoofBody.{MoofBody}
 use Rattle.state.specs.declared.MoofBody.TheVariants as moofs
-use Rattle.state.specs.declared.MoofBoxes.{MoofBoxes}
-use Rattle.state.specs.declared.MoofBoxes.TheVariants as moofBox
+use Rattle.state.specs.Boxed.{MoofBoxes}
 use Rattle.state.specs.declared.LeafSo.{LeafSo}
 use Rattle.state.specs.declared.LeafBody.{LeafBody}
 use Rattle.state.specs.declared.LeafBody.TheVariants as leaves
-use Rattle.state.specs.declared.LeafBoxes.{LeafBoxes}
-use Rattle.state.specs.declared.LeafBoxes.TheVariants as leafBox
+use Rattle.state.specs.Boxed.{LeafBoxes}
 use Rattle.state.specs.declared.Stage.{Stage}
 use Rattle.state.specs.declared.Stage.TheVariants as stage
 use Rattle.state.specs.declared.State.{State}
@@ -130,8 +127,8 @@ opening_body_numbers (openings.Styp span p listed more acc) = 2 ∷ span_numbers
 opening_body_numbers (openings.Index span s) = 3 ∷ span_numbers span ++ sidx_numbers s
 
 unfoldable pub opening_numbers : OpeningBoxes → List ℕ
-opening_numbers (openingBox.Head typed h) = 1 ∷ flag_number typed ∷ head_numbers h
-opening_numbers (openingBox.Body typed b) = 2 ∷ flag_number typed ∷ opening_body_numbers b
+opening_numbers (inBoxes.Head typed h) = 1 ∷ flag_number typed ∷ head_numbers h
+opening_numbers (inBoxes.Body typed b) = 2 ∷ flag_number typed ∷ opening_body_numbers b
 
 unfoldable pub gap_numbers : GapBoxes → List ℕ
 gap_numbers (gaps.Head h) = 1 ∷ head_numbers h
@@ -163,8 +160,8 @@ traf_body_numbers (trafs.Rest stop reference) = 2 ∷ stop ∷ flag_number refer
 traf_body_numbers (trafs.Field p more acc) = 3 ∷ padded 3 (traf_part_numbers p) ++ more ∷ acc ∷ []
 
 unfoldable pub traf_numbers : TrafBoxes → List ℕ
-traf_numbers (trafBox.Head so h) = 1 ∷ traf_so_numbers so ++ head_numbers h
-traf_numbers (trafBox.Body so b) = 2 ∷ traf_so_numbers so ++ traf_body_numbers b
+traf_numbers (inBoxes.Head so h) = 1 ∷ traf_so_numbers so ++ head_numbers h
+traf_numbers (inBoxes.Body so b) = 2 ∷ traf_so_numbers so ++ traf_body_numbers b
 
 -- A leaf with its `moof`.
 unfoldable pub moof_body_numbers : MoofBody → List ℕ
@@ -172,8 +169,8 @@ moof_body_numbers (moofs.Skip stop) = 1 ∷ stop ∷ []
 moof_body_numbers (moofs.Traf span t) = 2 ∷ span_numbers span ++ traf_numbers t
 
 unfoldable pub moof_numbers : MoofBoxes → List ℕ
-moof_numbers (moofBox.Head seen h) = 1 ∷ seen_numbers seen ++ head_numbers h
-moof_numbers (moofBox.Body seen b) = 2 ∷ seen_numbers seen ++ moof_body_numbers b
+moof_numbers (inBoxes.Head seen h) = 1 ∷ seen_numbers seen ++ head_numbers h
+moof_numbers (inBoxes.Body seen b) = 2 ∷ seen_numbers seen ++ moof_body_numbers b
 
 unfoldable pub leaf_body_numbers : LeafBody → List ℕ
 leaf_body_numbers (leaves.Skip stop) = 1 ∷ stop ∷ []
@@ -183,8 +180,8 @@ abbrev pub leaf_so_numbers : LeafSo → List ℕ
 leaf_so_numbers so = flag_number so.moof ∷ seen_numbers so.seen
 
 unfoldable pub leaf_numbers : LeafBoxes → List ℕ
-leaf_numbers (leafBox.Head so h) = 1 ∷ leaf_so_numbers so ++ head_numbers h
-leaf_numbers (leafBox.Body so b) = 2 ∷ leaf_so_numbers so ++ leaf_body_numbers b
+leaf_numbers (inBoxes.Head so h) = 1 ∷ leaf_so_numbers so ++ head_numbers h
+leaf_numbers (inBoxes.Body so b) = 2 ∷ leaf_so_numbers so ++ leaf_body_numbers b
 
 -- what all stages after the gap hold
 abbrev pub nested_numbers : Top → Levels → List ℕ

@@ -1,14 +1,12 @@
--- A box that is skipped up to the top index; and the top index at any time.
-use Prim.Native.Nat.{ℕ, zero, suc, ◌+◌, ◌-◌, ◌*◌}
+-- What a header shows up to the top index beyond its size; and the top index at any time.
+use Prim.Native.Nat.{ℕ, zero, suc, ◌+◌, ◌*◌}
 use mathlib.Core.Path.{◌≡◌, refl, ap, sym, ◌∙◌}
 use mathlib.Core.List.{List}
-use mathlib.Core.Bool.{Bool}
+use mathlib.Core.Bool.{Bool, not, ◌||◌}
 use lib.Dec.{eqb}
-use borrow.Author.Tests.{ne_eqb}
-use Rattle.basics.proofs.Picks.{pick_no, pick_both}
-use Rattle.segment.specs.Constants.{styp, sidx}
+use Rattle.basics.proofs.Picks.{pick_both}
+use Rattle.segment.specs.Constants.{styp, moof, mdat}
 use Rattle.machine.specs.Run.{Sub, go, done, bad, lift}
-use Rattle.machine.specs.Heads.{box_end}
 use Rattle.machine.specs.declared.Header.{Header}
 use Rattle.machine.proofs.Faults.{unless_both}
 use Rattle.state.specs.declared.Span.{Span}
@@ -27,17 +25,25 @@ use Rattle.state.specs.Sidx.{topmost, sidx_version_faults, id_faults, scale_faul
 use Rattle.state.specs.Sidx.{sum_faults, entry_size_faults, index_of, close_sidx, field_ends, entry_ends, keep_byte}
 use Rattle.state.specs.Sidx.{step_sidx}
 use Rattle.state.specs.Calls.{flow_of}
-use Rattle.state.specs.Opening.{indexed, begin_opening, skip_opening, step_opening_body}
-use Rattle.index.specs.Views.{view_index}
-use Rattle.index.specs.declared.IndexStep.{IndexStep}
-use Rattle.index.specs.declared.IndexStep.TheVariants as steps
-use Rattle.index.specs.declared.IndexSo.TheVariants as so
-use Rattle.opening.specs.Views.{body_opening}
+use Rattle.state.specs.Opening.{indexed, step_opening_body}
+use Rattle.state.specs.Views.{view}
+use Rattle.machine.specs.declared.Refusal.{Refusal}
+use Rattle.machine.specs.declared.Step.{Step}
+use Rattle.machine.specs.declared.Step.TheVariants as step
+use Rattle.std.specs.Prelude.{Some, None, Result, Ok, Err}
+use Rattle.std.specs.Option.{option_or}
+use Rattle.basics.specs.Choose.{pick}
+use Rattle.state.specs.Rows.{top_lengths, opening_faults}
+use Rattle.flaws.specs.Flaws.{flaw_of, numbered}
+use Rattle.flaws.proofs.Numbered.{first_of, two_kinds}
+use Rattle.flaws.proofs.Places.{opening_flaws}
 
--- a box that is neither `styp` nor `sidx` is skipped
-pub skipped : (h : Header) (f : Flow) (m : ℕ) → (h.kind ≡ styp → ⊥) → (h.kind ≡ sidx → ⊥) → skip_opening (box_end h) f m ≡ begin_opening h f m
-unfolding begin_opening
-skipped h f m y z = sym (pick_no _ _ _ (ne_eqb _ _ y) ∙ pick_no _ _ _ (ne_eqb _ _ z))
+-- what a header shows beyond its size
+pub opening_told : (branded : Bool) (h : Header) → numbered (flaw_of (opening_faults branded h))
+    ≡ option_or (numbered (flaw_of (top_lengths h)))
+    (pick (pick branded (eqb h.kind styp) (not (eqb h.kind styp))) (Some 7) (pick (eqb h.kind moof || eqb h.kind mdat) (Some 9) None))
+opening_told branded h =
+    ap numbered (opening_flaws branded h) ∙ first_of _ _ ∙ ap (option_or _) (sym (two_kinds _ _))
 
 -- an answer with the next entry's start at the time `t`
 unfoldable pub timed : ℕ → Sub Sidx IndexRead Flow Left → Sub Sidx IndexRead Flow Left
@@ -45,11 +51,11 @@ timed t (go s f) = go s (with_now f t)
 timed t (done x f) = done x (with_now f t)
 timed t (bad x l) = bad x l
 
-pub timed_view : (t : ℕ) (f : Flow) (r : IndexStep) → view_index (with_now f t) r ≡ timed t (view_index f r)
+pub timed_view : (t : ℕ) (f : Flow) (r : Result (Step Sidx IndexRead) Refusal) → view (with_now f t) r ≡ timed t (view f r)
 unfolding timed
-timed_view t f (steps.Taken (so.Going s)) = refl
-timed_view t f (steps.Taken (so.Read x)) = refl
-timed_view t f (steps.Bad x) = refl
+timed_view t f (Ok (step.Going s)) = refl
+timed_view t f (Ok (step.Done x)) = refl
+timed_view t f (Err x) = refl
 
 -- The top index does not look at the time at which the next entry starts.
 module _ (t : ℕ) (span : Span) where
@@ -80,18 +86,18 @@ module _ (t : ℕ) (span : Span) where
   timed_sidx (sidxs.Entry e d s (suc m) acc) f n b = refl
 
 -- a byte of the top index at one time says what it is at any
-pub any_time : (leaves at last : ℕ) (entry exit table : List ℕ) (span : Span) (i : Sidx) (n b : ℕ) (r : IndexStep) →
-    view_index (flow_of leaves 0 last exit table) r ≡ step_sidx topmost span i (flow_of leaves 0 last entry table) n b →
-    view_index (flow_of leaves at last exit table) r ≡ step_sidx topmost span i (flow_of leaves at last entry table) n b
+pub any_time : (leaves at last : ℕ) (entry exit table : List ℕ) (span : Span) (i : Sidx) (n b : ℕ) (r : Result (Step Sidx IndexRead) Refusal) →
+    view (flow_of leaves 0 last exit table) r ≡ step_sidx topmost span i (flow_of leaves 0 last entry table) n b →
+    view (flow_of leaves at last exit table) r ≡ step_sidx topmost span i (flow_of leaves at last entry table) n b
 any_time leaves at last entry exit table span i n b r e =
     timed_view at (flow_of leaves 0 last exit table) r ∙ ap (timed at) e ∙ sym (timed_sidx at span i (flow_of leaves 0 last entry table) n b)
 
--- a byte of the top index, in the list of boxes
-pub index_step : (brand : ℕ) (branded : Bool) (m leaves at last : ℕ) (entry exit table : List ℕ) (span : Span) (i : Sidx) (n b : ℕ) (r : IndexStep) →
-    view_index (flow_of leaves 0 last exit table) r ≡ step_sidx topmost span i (flow_of leaves 0 last entry table) n b →
-    body_opening brand branded m (lift (body.Index span) (λ x g. done (indexed x) g) bad (view_index (flow_of leaves at last exit table) r))
-    ≡ body_opening brand branded m (step_opening_body brand (body.Index span i) (flow_of leaves at last entry table) n b)
+-- a byte of the top index, as a body
+pub index_step : (brand leaves at last : ℕ) (entry exit table : List ℕ) (span : Span) (i : Sidx) (n b : ℕ) (r : Result (Step Sidx IndexRead) Refusal) →
+    view (flow_of leaves 0 last exit table) r ≡ step_sidx topmost span i (flow_of leaves 0 last entry table) n b →
+    lift (body.Index span) (λ x g. done (indexed x) g) bad (view (flow_of leaves at last exit table) r)
+    ≡ step_opening_body brand (body.Index span i) (flow_of leaves at last entry table) n b
 unfolding step_opening_body
-index_step brand branded m leaves at last entry exit table span i n b r e =
-    ap (λ (q : Sub Sidx IndexRead Flow Left). body_opening brand branded m (lift (body.Index span) (λ x g. done (indexed x) g) bad q))
+index_step brand leaves at last entry exit table span i n b r e =
+    ap (λ (q : Sub Sidx IndexRead Flow Left). lift (body.Index span) (λ x g. done (indexed x) g) bad q)
     (any_time leaves at last entry exit table span i n b r e)

@@ -1,342 +1,269 @@
 // The boxes up to the top index and the boxes of the gap, one byte at a time.
-#![tactic(auto)]
+#![tactic(auto, unfolding(
+// the faults of a list, and what a list makes of a box
+basics::specs::Choose::pick, machine::specs::Faults::shows, machine::specs::Faults::lowest, machine::specs::Faults::unless, machine::specs::Run::lift,
+// what follows a box, and what a body makes of a byte
+machine::specs::Lists::go_on, state::specs::Stages::gap_next, state::specs::Opening::brands_from,
+// the numbers of a `styp`
+state::specs::Opening::styp_ends))]
 
-ghost use Rattle.std.specs.Prelude.{◌≡◌, List, ◌++◌, true, ◌||◌, ℕ, ◌+◌, ◌<◌, ◌≤◌, eqb, length};
+ghost use Rattle.std.specs.Prelude.{◌≡◌, List, [], ℕ, ◌+◌, ◌<◌, ◌≤◌, length, Ok, ⊤, refl};
 ghost use Rattle.segment.specs.Constants.{limit};
-ghost use Rattle.machine.specs.Run.{done, bad, lift};
-ghost use Rattle.machine.specs.Heads.{size_faults};
-ghost use Rattle.machine.specs.Lists.{go_on};
 ghost use Rattle.state.specs.Flow.{Flow, work_bytes};
-ghost use Rattle.state.specs.Rows.{opening_faults, gap_faults};
-ghost use Rattle.state.specs.Opening.{indexed, brands_from, styp_ends, skip_opening, begin_opening, step_opening_body, opening, wrap_opening, step_opening};
-ghost use Rattle.state.specs.Stages.{skip_gap, gap_next, gap_boxes, wrap_gap, step_gap};
+ghost use Rattle.state.specs.Opening.{OpeningGave, brands_from, styp_ends, step_opening_body, opening, step_opening};
+ghost use Rattle.state.specs.Stages.{skip_gap, gap_boxes, wrap_gap, step_gap};
 ghost use Rattle.state.specs.Ranges.{Within, opening_body_bounds, opening_bounds, gap_bounds};
 ghost use Rattle.state.specs.Calls.{flow_of};
-ghost use Rattle.header.specs.Views.{view_head, after_header};
-ghost use Rattle.flaws.specs.Flaws.{flaw_of};
-ghost use Rattle.index.specs.Views.{view_index};
-ghost use Rattle.opening.specs.Views.{view_gap, view_opening, head_gap, body_gap, head_opening, body_opening};
+ghost use Rattle.state.specs.Views.{view, view_as};
+ghost use Rattle.header.specs.Views.{after_header};
+ghost use Rattle.flaws.proofs.Places.{opening_beyond};
+ghost use Rattle.opening.specs.Views.{body_gap, given};
 
-use flaws::{SIDX, STYP};
-use header::{HeadSo, HeadStep};
-use index::{IndexSo, IndexStep, Where};
-use machine::{Head, Header, Refusal};
+use flaws::{SIDX, STYP, box_span, gap_kind_flaw, opening_kind_flaw, top_flaw};
+use index::Where;
+use lists::{BoxList, after_body, after_head, skip_to};
+use machine::{BoxesSo, Head, Header, Refusal, Step};
 use state::{GapBoxes, IndexRead, LIMIT, OpeningBody, OpeningBoxes, Span, StypPart};
 
-// What a byte makes of the boxes up to the top index: they go on, the top index is read, or it is refused.
-#[derive(Clone, Copy)]
-pub enum OpeningStep {
-    Go(OpeningBoxes),
-    Done(IndexRead),
-    Bad(Refusal),
-}
+// What a byte makes of the gap: it goes on, or the gap is over. (It is no `BoxList`: a stage holds it as `GapBoxes`, which is no `BoxesSo`, and
+// turning one into the other and back is longer than what stands here.)
+type GapAnswer = Result<Step<GapBoxes, ()>, Refusal>;
 
-// What a byte makes of the gap: it goes on, the gap is over, or it is refused.
-#[derive(Clone, Copy)]
-pub enum GapStep {
-    Go(GapBoxes),
-    Done,
-    Bad(Refusal),
-}
-
-// The lowest number that a header in the gap shows, or 0.
-fn gap_flaw(end: u64, h: Header) -> u64
-    ensures { result ≡ flaw_of (size_faults end h ++ gap_faults h) }
+// A body in the gap, which is skipped up to `stop`; the gap may be over with it. `m` bytes up to the last one read.
+fn gap_skip(end: u64, stop: u64, m: u64) -> GapAnswer
+    ensures { (f : Flow) → view f result ≡ body_gap end m (skip_gap stop f m) }
 {
-    let other = flaws::gap_kind_flaw(h.kind);
-    flaws::header_flaw(end, h, other)
-}
-
-// After a box of the gap: `m` bytes up to its last.
-fn gap_next(end: u64, m: u64) -> GapStep
-    ensures { (f : Flow) → view_gap f result ≡ go_on (gap_boxes end) wrap_gap (gap_next end m) f }
-{
+    if m < stop {
+        return Ok(Step::Going(GapBoxes::Body { stop }));
+    }
     if m == end {
-        return GapStep::Done;
+        return Ok(Step::Done(()));
     }
-    GapStep::Go(GapBoxes::Head(Head::First))
-}
-
-// A body in the gap, which is skipped up to `stop`.
-fn gap_skip(end: u64, stop: u64, m: u64) -> GapStep
-    ensures { (f : Flow) → view_gap f result ≡ body_gap end m (skip_gap stop f m) }
-{
-    if stop <= m {
-        return gap_next(end, m);
-    }
-    GapStep::Go(GapBoxes::Body { stop })
+    Ok(Step::Going(GapBoxes::Head(Head::First)))
 }
 
 // A header in the gap is read.
-fn gap_headed(end: u64, h: Header, m: u64) -> GapStep
-    ensures { (f : Flow) → view_gap f result ≡ after_header (gap_boxes end) wrap_gap tt m h f }
+fn gap_headed(end: u64, h: Header, m: u64) -> GapAnswer
+    ensures { (f : Flow) → view f result ≡ after_header (gap_boxes end) wrap_gap tt m h f }
 {
-    let flaw = gap_flaw(end, h);
-    if flaw != 0 {
-        return GapStep::Bad(Refusal {
-            number: flaw,
-            place: h.pos,
-        });
-    }
-    gap_skip(end, h.pos + h.size, m)
-}
-
-fn gap_head(end: u64, q: HeadStep, m: u64) -> GapStep
-    ensures { (f : Flow) → view_gap f result ≡ head_gap end m (view_head f q) }
-{
-    let HeadStep::Taken(head) = q else {
-        return GapStep::Bad(header::refused_head(q));
-    };
-    match head {
-        HeadSo::Going(h) => GapStep::Go(GapBoxes::Head(h)),
-        HeadSo::Read(h) => gap_headed(end, h, m),
-    }
+    let span = box_span(end, h, gap_kind_flaw(h.kind))?;
+    gap_skip(end, span.end, m)
 }
 
 // One byte of the gap, which ends at `end`; `n` bytes stand before it.
-pub fn gap_byte(end: u64, s: GapBoxes, n: u64, b: u8) -> GapStep
+pub fn gap_byte(end: u64, s: GapBoxes, n: u64, b: u8) -> Result<Step<GapBoxes, ()>, Refusal>
     requires { Within (gap_bounds s) × (n < limit) }
-    ensures { (f : Flow) → view_gap f result ≡ step_gap end s f n b }
+    ensures { (f : Flow) → view f result ≡ step_gap end s f n b }
 {
     match s {
-        GapBoxes::Head(h) => gap_head(end, header::head_byte(end, h, n, b), n + 1),
+        GapBoxes::Head(h) => match header::head_byte(end, h, n, b)? {
+            Step::Going(h) => Ok(Step::Going(GapBoxes::Head(h))),
+            Step::Done(h) => gap_headed(end, h, n + 1),
+        },
         GapBoxes::Body { stop } => gap_skip(end, stop, n + 1),
     }
 }
 
-// The lowest number that a header up to the top index shows, or 0.
-fn opening_flaw(branded: bool, h: Header) -> u64
-    ensures { result ≡ flaw_of (size_faults limit h ++ opening_faults branded h) }
-{
-    let other = flaws::opening_kind_flaw(branded, h.kind);
-    flaws::header_flaw(LIMIT, h, other)
+// A box up to the top index gives the index, where it is that; else nothing.
+type Gives = Option<IndexRead>;
+
+// What a byte of a body makes of it: it goes on, or it is over.
+type BodyAnswer = Result<Step<OpeningBody, Gives>, Refusal>;
+
+// A `styp` that is being read: the brand wanted, the box, and whether it has listed the brand so far.
+#[derive(Clone, Copy)]
+struct Styp {
+    brand: u64,
+    span: Span,
+    listed: bool,
 }
 
-// A box is passed, and others follow.
-fn opening_next() -> OpeningStep
-    ensures { result ≡ OpeningStep.Go (OpeningBoxes.Head true Head.First) }
-{
-    OpeningStep::Go(OpeningBoxes::Head(true, Head::First))
-}
-
-// A body that is skipped up to `stop`.
-fn opening_skip(branded: bool, stop: u64, m: u64) -> OpeningStep
-    ensures { (brand : ℕ) (f : Flow) → view_opening f result ≡ body_opening brand branded m (skip_opening stop f m) }
-{
-    if stop <= m {
-        return opening_next();
+impl Styp {
+    // A number of it goes on, or the next one begins.
+    fn number(self, part: StypPart, more: u64, acc: u64) -> BodyAnswer
+        ensures { result ≡ Ok (Step.Going (OpeningBody.Styp self.span part self.listed more acc)) }
+    {
+        Ok(Step::Going(OpeningBody::Styp {
+            span: self.span,
+            part,
+            listed: self.listed,
+            more,
+            acc,
+        }))
     }
-    OpeningStep::Go(OpeningBoxes::Body(branded, OpeningBody::Skip { stop }))
+
+    // A compatible brand follows, or the box ends and must have listed the brand wanted.
+    fn brands_from(self, m: u64) -> BodyAnswer
+        ensures { (f : Flow) → view_as given f result ≡ brands_from self.span self.listed f m }
+    {
+        if m != self.span.end {
+            return self.number(StypPart::Brand, 3, 0);
+        }
+        if self.listed {
+            return Ok(Step::Done(None));
+        }
+        Err(Refusal {
+            number: 8,
+            place: self.span.pos,
+        })
+    }
+
+    // A number of it is read.
+    fn ends(self, part: StypPart, v: u64, m: u64) -> BodyAnswer
+        ensures { (f : Flow) → view_as given f result ≡ styp_ends self.brand self.span part self.listed v f m }
+    {
+        match part {
+            StypPart::Major => self.number(StypPart::Minor, 3, 0),
+            StypPart::Minor => self.brands_from(m),
+            StypPart::Brand => {
+                let listed = self.listed || v == self.brand;
+                Styp { listed, ..self }.brands_from(m)
+            }
+        }
+    }
+
+    // One byte of a number of it.
+    fn byte(self, part: StypPart, more: u64, acc: u64, n: u64, b: u8) -> BodyAnswer
+        requires { (acc < 72057594037927936) × (n < limit) }
+        ensures { (f : Flow) → view_as given f result ≡ step_opening_body self.brand (OpeningBody.Styp self.span part self.listed more acc) f n b }
+    {
+        let v = header::spelled(acc, b);
+        if more == 0 {
+            return self.ends(part, v, n + 1);
+        }
+        self.number(part, more - 1, v)
+    }
 }
 
-// A body begins: that of a `styp`, of the top index, or of a box that is skipped.
-fn opening_begin(branded: bool, h: Header, m: u64) -> OpeningStep
-    requires { h.pos + h.size ≤ limit }
-    ensures { (brand : ℕ) (f : Flow) → view_opening f result ≡ body_opening brand branded m (begin_opening h f m) }
-{
-    let end = h.pos + h.size;
-    if h.kind == STYP {
-        return OpeningStep::Go(OpeningBoxes::Body(
-            branded,
-            OpeningBody::Styp {
-                span: Span { pos: h.pos, end },
+// The boxes up to the top index, as a list; `brand` is the brand wanted. Its bodies store bytes in the work area, so that it is no `BodyList`.
+#[derive(Clone, Copy)]
+struct OpeningList {
+    brand: u64,
+}
+
+impl BoxList for OpeningList {
+    type Known = bool;
+
+    type Body = OpeningBody;
+
+    type Gives = Gives;
+
+    type Whole = IndexRead;
+
+    ghost Gave = { OpeningGave };
+
+    ghost gave = { given };
+
+    ghost boxes = { λ l. opening l.brand };
+
+    ghost Flows = { λ l f. ⊤ };
+
+    ghost flow = { λ l. flow_of 0 0 0 [] [] };
+
+    fn end(&self) -> u64 {
+        LIMIT
+    }
+
+    #[tactic(auto, using(crate::proofs::OpeningSteps::opening_told))]
+    fn flaw(&self, branded: bool, h: Header) -> Option<u64> {
+        top_flaw(h, opening_kind_flaw(branded, h.kind))
+    }
+
+    #[tactic(auto, using(lists::proofs::Laws::skipped), unfolding(state::specs::Opening::begin_opening, basics::specs::Choose::pick))]
+    fn begin(&self, _branded: bool, h: Header, n: u64) -> BodyAnswer {
+        let span = Span {
+            pos: h.pos,
+            end: h.pos + h.size,
+        };
+        let stop = span.end;
+        match h.kind {
+            STYP => Ok(Step::Going(OpeningBody::Styp {
+                span,
                 part: StypPart::Major,
                 listed: false,
                 more: 3,
                 acc: 0,
-            },
-        ));
-    }
-    if h.kind == SIDX {
-        let span = Span { pos: h.pos, end };
-        return OpeningStep::Go(OpeningBoxes::Body(
-            branded,
-            OpeningBody::Index(span, index::index_begin()),
-        ));
-    }
-    opening_skip(branded, end, m)
-}
-
-// A header up to the top index is read.
-fn opening_headed(branded: bool, h: Header, m: u64) -> OpeningStep
-    ensures { (brand : ℕ) (f : Flow) → view_opening f result ≡ after_header (opening brand) wrap_opening branded m h f }
-{
-    let flaw = opening_flaw(branded, h);
-    if flaw != 0 {
-        return OpeningStep::Bad(Refusal {
-            number: flaw,
-            place: h.pos,
-        });
-    }
-    opening_begin(branded, h, m)
-}
-
-fn opening_head(branded: bool, q: HeadStep, m: u64) -> OpeningStep
-    ensures { (brand : ℕ) (f : Flow) → view_opening f result ≡ head_opening brand branded m (view_head f q) }
-{
-    let HeadStep::Taken(head) = q else {
-        return OpeningStep::Bad(header::refused_head(q));
-    };
-    match head {
-        HeadSo::Going(h) => OpeningStep::Go(OpeningBoxes::Head(branded, h)),
-        HeadSo::Read(h) => opening_headed(branded, h, m),
-    }
-}
-
-// A compatible brand follows, or the `styp` ends and must have listed the brand wanted.
-fn brands_from(branded: bool, span: Span, listed: bool, m: u64) -> OpeningStep
-    ensures { (brand : ℕ) (f : Flow) → view_opening f result ≡ body_opening brand branded m (brands_from span listed f m) }
-{
-    if m == span.end {
-        if listed {
-            return opening_next();
+            })),
+            SIDX => Ok(Step::Going(OpeningBody::Index(span, index::index_begin()))),
+            _ => Ok(skip_to(stop, n, OpeningBody::Skip { stop }, None)),
         }
-        return OpeningStep::Bad(Refusal {
-            number: 8,
-            place: span.pos,
-        });
     }
-    OpeningStep::Go(OpeningBoxes::Body(
-        branded,
-        OpeningBody::Styp {
-            span,
-            part: StypPart::Brand,
-            listed,
-            more: 3,
-            acc: 0,
-        },
-    ))
-}
 
-fn found(listed: bool, v: u64, brand: u64) -> bool
-    ensures { result ≡ (listed || eqb v brand) }
-{
-    if listed {
-        return true;
+    // After a `styp` or a skipped box others follow; the top index ends the list.
+    #[tactic(auto, unfolding(state::specs::Opening::close_opening, lists::specs::Listed::on_from, machine::specs::Faults::unless))]
+    fn close(&self, _branded: bool, g: Gives, _n: u64) -> Result<Step<bool, IndexRead>, Refusal> {
+        match g {
+            None => Ok(Step::Going(true)),
+            Some(x) => Ok(Step::Done(x)),
+        }
     }
-    v == brand
-}
 
-// A number of a `styp` is read.
-fn styp_end(
-    brand: u64,
-    branded: bool,
-    span: Span,
-    part: StypPart,
-    listed: bool,
-    v: u64,
-    m: u64,
-) -> OpeningStep
-    ensures { (f : Flow) → view_opening f result ≡ body_opening brand branded m (styp_ends brand span part listed v f m) }
-{
-    match part {
-        StypPart::Major => OpeningStep::Go(OpeningBoxes::Body(
-            branded,
-            OpeningBody::Styp {
-                span,
-                part: StypPart::Minor,
-                listed,
-                more: 3,
-                acc: 0,
-            },
-        )),
-        StypPart::Minor => brands_from(branded, span, listed, m),
-        StypPart::Brand => brands_from(branded, span, found(listed, v, brand), m),
+    #[tactic(auto, unfolding(machine::specs::Faults::lowest))]
+    fn beside(&self, _branded: bool, x: Refusal, _n: u64) -> Refusal {
+        x
     }
-}
 
-fn styp_byte(
-    brand: u64,
-    branded: bool,
-    span: Span,
-    part: StypPart,
-    listed: bool,
-    more: u64,
-    acc: u64,
-    n: u64,
-    b: u8,
-) -> OpeningStep
-    requires { (acc < 72057594037927936) × (n < limit) }
-    ensures { (f : Flow) → view_opening f result
-        ≡ body_opening brand branded (n + 1) (step_opening_body brand (OpeningBody.Styp span part listed more acc) f n b) }
-{
-    let v = header::spelled(acc, b);
-    if more == 0 {
-        return styp_end(brand, branded, span, part, listed, v, n + 1);
-    }
-    OpeningStep::Go(OpeningBoxes::Body(
-        branded,
-        OpeningBody::Styp {
-            span,
-            part,
-            listed,
-            more: more - 1,
-            acc: v,
-        },
-    ))
-}
+    ghost flows = { λ l. tt };
 
-// What a byte of the top index makes of the boxes up to it: its end ends them.
-fn opening_index(branded: bool, span: Span, q: IndexStep) -> OpeningStep
-    ensures { (brand m : ℕ) (f : Flow) → view_opening f result
-        ≡ body_opening brand branded m (lift (OpeningBody.Index span) (λ x g. done (indexed x) g) bad (view_index f q)) }
-{
-    let IndexStep::Taken(read) = q else {
-        return OpeningStep::Bad(index::refused_index(q));
-    };
-    match read {
-        IndexSo::Going(s) => OpeningStep::Go(OpeningBoxes::Body(
-            branded,
-            OpeningBody::Index(span, s),
-        )),
-        IndexSo::Read(x) => OpeningStep::Done(x),
-    }
+    ghost kept = { λ l. refl };
+
+    ghost box_kept = { λ l a. refl };
+
+    ghost beyond = { λ l a h f. opening_beyond a h };
 }
 
 // One byte of a body. The top index does not look at the time at which an entry starts, so that any will do.
-fn body_byte(
-    brand: u64,
-    branded: bool,
-    s: OpeningBody,
-    n: u64,
-    b: u8,
-    work: &mut [u8],
-) -> OpeningStep
+fn body_byte(brand: u64, s: OpeningBody, n: u64, b: u8, work: &mut [u8]) -> BodyAnswer
     requires { Within (opening_body_bounds s) × (n < limit) × (work_bytes ≤ length work.old) }
     ensures { (leaves at last : ℕ) (table : List ℕ) →
-        view_opening (flow_of leaves at last work.new table) result
-        ≡ body_opening brand branded (n + 1) (step_opening_body brand s (flow_of leaves at last work.old table) n b) }
+        view_as given (flow_of leaves at last work.new table) result
+        ≡ step_opening_body brand s (flow_of leaves at last work.old table) n b }
 {
     match s {
-        OpeningBody::Skip { stop } => opening_skip(branded, stop, n + 1),
+        OpeningBody::Skip { stop } => Ok(skip_to(stop, n + 1, s, None)),
         OpeningBody::Styp {
             span,
             part,
             listed,
             more,
             acc,
-        } => { styp_byte(brand, branded, span, part, listed, more, acc, n, b) }
-        OpeningBody::Index(span, i) => {
-            opening_index(
-                branded,
+        } => {
+            let styp = Styp {
+                brand,
                 span,
-                index::index_byte(Where::Topmost, span, i, 0, n, b, work),
-            )
+                listed,
+            };
+            styp.byte(part, more, acc, n, b)
+        }
+        OpeningBody::Index(span, i) => {
+            match index::index_byte(Where::Topmost, span, i, 0, n, b, work)? {
+                Step::Going(i) => Ok(Step::Going(OpeningBody::Index(span, i))),
+                Step::Done(x) => Ok(Step::Done(Some(x))),
+            }
         }
     }
 }
 
 // One byte up to the end of the top index; `n` bytes stand before it.
-pub fn opening_byte(brand: u64, s: OpeningBoxes, n: u64, b: u8, work: &mut [u8]) -> OpeningStep
+pub fn opening_byte(
+    brand: u64,
+    s: OpeningBoxes,
+    n: u64,
+    b: u8,
+    work: &mut [u8],
+) -> Result<Step<OpeningBoxes, IndexRead>, Refusal>
     requires { Within (opening_bounds s) × (n < limit) × (work_bytes ≤ length work.old) }
     ensures { (leaves at last : ℕ) (table : List ℕ) →
-        view_opening (flow_of leaves at last work.new table) result
+        view (flow_of leaves at last work.new table) result
         ≡ step_opening brand s (flow_of leaves at last work.old table) n b }
 {
+    let list = OpeningList { brand };
     match s {
-        OpeningBoxes::Head(branded, h) => {
-            opening_head(branded, header::head_byte(LIMIT, h, n, b), n + 1)
+        BoxesSo::Head(branded, h) => {
+            after_head(&list, branded, header::head_byte(LIMIT, h, n, b), n + 1)
         }
-        OpeningBoxes::Body(branded, i) => body_byte(brand, branded, i, n, b, work),
+        BoxesSo::Body(branded, body) => {
+            after_body(&list, branded, body_byte(brand, body, n, b, work), n + 1)
+        }
     }
 }

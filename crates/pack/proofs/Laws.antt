@@ -1,52 +1,77 @@
--- Blocks put one behind the other are one block (`put_then`); numbers put into zeros from their front are padded (`put_into_zeros`).
-use Prim.Native.Nat.{ℕ, zero, suc, ◌+◌, ◌-◌, ◌≤◌, ◌<◌}
-use mathlib.Core.Path.{◌≡◌, refl, sym, ap, ◌∙◌}
-use mathlib.Core.List.{List, ◌++◌, append-nil}
-use mathlib.Core.Bool.{true, ◌&&◌}
-use native.Mathlib.Omega.{arith}
+-- What was put stands before zeros, also when more is put behind it (`zeros_behind`) or it is padded (`view_padded`).
+use Rattle.std.proofs.Common.{ℕ, ◌+◌, ◌-◌, ◌≤◌, ◌≡◌, refl, sym, ap, ◌∙◌, arith, Bool, true, false, List, [], ◌∷◌, ◌++◌, length, take, drop, replicate}
+use mathlib.Core.Bool.{◌&&◌}
 use lib.Dec.{eqb}
-use lib.ListN.{length, replicate, take, drop, set, get_or, length-replicate, drop_of_length-le}
-use lib.Seq.{drop-cons, take_all, paste-suc}
-use Rattle.basics.specs.Put.{put_all}
-use Rattle.basics.proofs.Put.{put_more, put_between}
-use Rattle.numbered.specs.Numbers.{padded}
+use lib.Pointwise.{pointwise}
+use Rattle.std.specs.Int.{from_bool}
+use mathlib.Core.List.{append_assoc}
+use lib.ListN.{take-append-drop, length-append, length-drop}
+use Rattle.std.proofs.lemmas.Slice.{drop-put_mid}
+use lib.Seq.{drop-drop, take_all, take-append-add, length-take-le}
+use borrow.Rule.Slice.PartMut.{put_mid}
+use Rattle.std.proofs.lemmas.List.{drop-replicate, take-replicate}
+use Rattle.basics.specs.Choose.{pick}
+use Rattle.numbered.specs.Numbers.{flag_number, padded}
 use Rattle.numbered.specs.Unpacked.{same_numbers}
 
--- one block put behind another, whose length is known
-pub put_then : (list a b : List ℕ) (i n : ℕ) (xs ys : List ℕ) → length xs ≡ n → a ≡ put_all list i xs → b ≡ put_all a (i + n) ys → b ≡ put_all list i (xs ++ ys)
-put_then list a b i n xs ys e p q =
-    q ∙ ap (λ l. put_all l (i + n) ys) p ∙ ap (λ k. put_all (put_all list i xs) (i + k) ys) (sym e) ∙ put_more list i xs ys
+pub flag_is : (b : Bool) → from_bool b ≡ flag_number b
+unfolding flag_number pick
+flag_is true = refl
+flag_is false = refl
 
-drop_zeros : (n k : ℕ) → drop k (replicate {A = ℕ} n 0) ≡ replicate (n - k) 0
-drop_zeros zero zero = refl
-drop_zeros zero (suc k) = let e : 0 ≡ 0 - suc k = omega arith in ap (λ m. replicate m 0) e
-drop_zeros (suc n) zero = let e : suc n ≡ suc n - 0 = omega arith in ap (λ m. replicate m 0) e
-drop_zeros (suc n) (suc k) = let e : n - k ≡ suc n - suc k = omega arith in drop_zeros n k ∙ ap (λ m. replicate m 0) e
+-- what is put behind what was put
+pub behind : (old xs ys : List ℕ) → (old ++ xs) ++ ys ≡ old ++ (xs ++ ys)
+behind old xs ys = append_assoc old xs ys
 
-pub put_into_zeros : (n : ℕ) (xs : List ℕ) → length xs ≤ n → put_all (replicate n 0) 0 xs ≡ padded n xs
+-- what the puts of a block rest on
+pub ruleset puts = (flag_is, behind)
+
+-- numbers compared by `==`
+pub same_is : (xs ys : List ℕ) → same_numbers xs ys ≡ pointwise eqb xs ys
+unfolding same_numbers
+same_is [] [] = refl
+same_is [] (y ∷ ys) = refl
+same_is (x ∷ xs) [] = refl
+same_is (x ∷ xs) (y ∷ ys) = ap (λ t. eqb x y && t) (same_is xs ys)
+
+-- what a slice from a place on holds
+pub rest_is : (at : ℕ) (ns : List ℕ) → take (length ns - at) (drop at ns) ≡ drop at ns
+rest_is at ns = take_all (length ns - at) (drop at ns) (omega (arith, length-drop at ns))
+
+-- in a list of n numbers, with zeros from a place on
+module _ (all : List ℕ) (n at : ℕ) (long : length all ≡ n) (within : at ≤ n) (zeros : drop at all ≡ replicate (n - at) 0) where
+  -- zeros stand from any later place on
+  pub zeros_from : (end : ℕ) → at ≤ end → drop end all ≡ replicate (n - end) 0
+  zeros_from end h =
+      let e : end ≡ at + (end - at) = omega arith in
+      let left : n - at - (end - at) ≡ n - end = omega arith in
+      ap (λ k. drop k all) e ∙ sym (drop-drop (end - at) at all) ∙ ap (drop (end - at)) zeros ∙ drop-replicate (end - at) (n - at) 0 ∙ ap (λ k. replicate k 0) left
+
+  -- more put from there on
+  pub zeros_behind : (ns : List ℕ) → at + length ns ≤ n → drop (at + length ns) (put_mid at (at + length ns - at) all ns) ≡ replicate (n - (at + length ns)) 0
+  zeros_behind ns h = drop-put_mid at (at + length ns - at) all ns (at + length ns) (omega arith) (omega arith) (omega arith) ∙ zeros_from (at + length ns) (omega arith)
+
+  view_zeros : all ≡ take at all ++ replicate (n - at) 0
+  view_zeros = sym (take-append-drop at all) ∙ ap (λ l. take at all ++ l) zeros
+
+  -- the zeros up to a place taken too
+  pub view_padded : (end : ℕ) → at ≤ end → end ≤ n → take end all ≡ padded end (take at all)
+  unfolding padded
+  view_padded end h k =
+      let xs : List ℕ = take at all in
+      let held : length xs ≡ at = length-take-le at all (omega arith) in
+      let e : end ≡ length xs + (end - length xs) = omega arith in
+      let left : end - length xs ≤ n - at = omega arith in
+      ap (take end) view_zeros ∙ ap (λ k. take k (xs ++ replicate (n - at) 0)) e ∙ take-append-add xs (replicate (n - at) 0) (end - length xs)
+      ∙ ap (λ l. xs ++ l) (take-replicate (end - length xs) (n - at) 0 left)
+
+  pub view_all : all ≡ padded n (take at all)
+  unfolding padded
+  view_all = let held : length (take at all) ≡ at = length-take-le at all (omega arith) in view_zeros ∙ ap (λ k. take at all ++ replicate (n - k) 0) (sym held)
+
+-- padded, and all put behind numbers: padded there
+pub padded_behind : (old xs : List ℕ) (n end : ℕ) → end ≡ length old + n → padded end (old ++ xs) ≡ old ++ padded n xs
 unfolding padded
-put_into_zeros n xs h =
-    let e : 0 + length xs ≡ length xs = omega arith in
-    put_between (replicate n 0) 0 xs (rw (length-replicate {A = ℕ} n 0) (omega arith)) ∙ ap (λ k. xs ++ drop k (replicate n 0)) e ∙ ap (λ l. xs ++ l) (drop_zeros n (length xs))
-
--- numbers compared from a place on: one more, where both have it; none left
-module _ (a b : List ℕ) (i : ℕ) where
-  pub same_more : i < length a → i < length b → same_numbers (drop i a) (drop i b) ≡ (eqb (get_or a i 0) (get_or b i 0) && same_numbers (drop (i + 1) a) (drop (i + 1) b))
-  unfolding same_numbers
-  same_more h k = let e : i + 1 ≡ suc i = omega arith in rw (e, drop-cons a i 0 h, drop-cons b i 0 k)
-
-  pub same_over : length a ≤ i → length b ≤ i → same_numbers (drop i a) (drop i b) ≡ true
-  unfolding same_numbers
-  same_over h k = rw (drop_of_length-le a h, drop_of_length-le b k)
-
--- numbers written over others from the front: one more, and all
-pub over_more : (old by : List ℕ) (i : ℕ) → i < length old → i < length by → set (take i by ++ drop i old) i (get_or by i 0) ≡ take (i + 1) by ++ drop (i + 1) old
-over_more old by i h k =
-    let e : i ≡ 0 + i = omega arith in
-    let f : i + 1 ≡ 0 + suc i = omega arith in
-    let g : suc i ≡ i + 1 = omega arith in
-    ap (λ n. set (take i by ++ drop n old) n (get_or by i 0)) e ∙ paste-suc old 0 by i 0 (omega arith) k
-    ∙ ap (λ n. take n by ++ drop (0 + suc i) old) g ∙ ap (λ n. take (i + 1) by ++ drop n old) (sym f)
-
-pub over_all : (old by : List ℕ) (i : ℕ) → length old ≤ i → length by ≤ i → take i by ++ drop i old ≡ by
-over_all old by i h k = rw (drop_of_length-le old h, take_all i by k) (append-nil by)
+padded_behind old xs n end e =
+    let left : end - length (old ++ xs) ≡ n - length xs = omega (arith, length-append old xs) in
+    ap (λ k. (old ++ xs) ++ replicate k 0) left ∙ append_assoc old xs (replicate (n - length xs) 0)

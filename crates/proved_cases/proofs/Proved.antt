@@ -1,4 +1,5 @@
 -- The cases of document 01 marked P, and cases of request A1, each one statement over one list, by computation; what a statement says stands in specs `Cases`.
+use Rattle.std.specs.Prelude.{Ok}
 use Prim.Native.Nat.{ℕ}
 use mathlib.Core.Path.{◌≡◌, refl}
 use mathlib.Core.List.{List, [], ◌∷◌, ◌++◌}
@@ -13,10 +14,8 @@ use Rattle.machine.specs.Faults.{refusal}
 use Rattle.moment.specs.declared.Request.TheVariants as request
 use Rattle.moment.specs.Moments.{tick, moment_of}
 use Rattle.state.specs.Calls.{out}
-use Rattle.state.specs.declared.FinishAnswer.TheVariants as finishes
-use Rattle.covering.specs.Lookup.{lookup_of}
+use Rattle.covering.specs.Lookup.{lookup_of, the_leaf}
 use Rattle.covering.specs.Records.{record_of, records_of}
-use Rattle.covering.specs.declared.LookupAnswer.TheVariants as lookups
 use Rattle.proved_cases.specs.Segments.{S, s_with, s_scaled, T, t_with}
 use Rattle.proved_cases.specs.Cases.{work0, table0, by_tree, by_bytes, by_descent, leaf_at, table_with, work_s}
 use Rattle.proved_cases.specs.Cases.{work_t, accepted_state, scaled_state, below_edge, double600, double7000, first_of_s, second_of_s, leaves_of_s}
@@ -83,20 +82,20 @@ scaled_tree : by_tree (s_scaled 600) ≡ some leaves_of_s
 unfolding the_segments the_tree
 scaled_tree = refl
 
-scaled_fed : by_bytes (s_scaled 600) ≡ out (finishes.Listed 2) (scaled_state 600) work_s (table_with leaves_of_s)
+scaled_fed : by_bytes (s_scaled 600) ≡ out (Ok 2) (scaled_state 600) work_s (table_with leaves_of_s)
 unfolding the_segments the_descent the_lookup
 scaled_fed = refl
 
-scaled_descended : by_descent (s_scaled 600) ≡ out (finishes.Listed 2) (scaled_state 600) work_s (table_with leaves_of_s)
+scaled_descended : by_descent (s_scaled 600) ≡ out (Ok 2) (scaled_state 600) work_s (table_with leaves_of_s)
 unfolding the_segments the_descent the_lookup
 scaled_descended = refl
 
 -- the leaves that are found in it
-scaled_exact : lookup_of (scaled_state 600) (table_with leaves_of_s) (request.Seconds below_edge) ≡ lookups.Found 1 (record_of first_of_s)
+scaled_exact : lookup_of (scaled_state 600) (table_with leaves_of_s) (request.Seconds below_edge) ≡ Ok (the_leaf 1 (record_of first_of_s))
 unfolding the_descent the_lookup
 scaled_exact = refl
 
-scaled_ticks : lookup_of (scaled_state 600) (table_with leaves_of_s) (request.Ticks 7000) ≡ lookups.Found 2 (record_of second_of_s)
+scaled_ticks : lookup_of (scaled_state 600) (table_with leaves_of_s) (request.Ticks 7000) ≡ Ok (the_leaf 2 (record_of second_of_s))
 unfolding the_descent the_lookup
 scaled_ticks = refl
 

@@ -1,6 +1,6 @@
 -- What a case of document 01 marked P says, and a case of request A1: of one list of bytes, what the tree, the byte definition and the descent give for it. The brand
 -- wanted is `msdh`; a work area of 49,152 bytes and a leaf table with room for 256 leaves are lent, all 0.
-use Rattle.std.specs.Prelude.{ℕ, ◌*◌, ◌≡◌, List, [], ◌∷◌, ◌++◌, Bool, true, false, pos, negsuc, length, replicate, drop, Float}
+use Rattle.std.specs.Prelude.{ℕ, ◌*◌, ◌≡◌, List, [], ◌∷◌, ◌++◌, Bool, true, false, pos, negsuc, length, replicate, drop, Float, Result, Ok, Err}
 use Rattle.std.proofs.Math.Option.{Option, some, none}
 use Rattle.std.specs.Float.{nan, inf, fin, binary64}
 use Rattle.std.specs.Float.Ieee.{mul, fits}
@@ -11,14 +11,11 @@ use Rattle.machine.specs.declared.Refusal.{Refusal}
 use Rattle.state.specs.Calls.{Out, out, whole_of}
 use Rattle.state.specs.declared.State.{State}
 use Rattle.state.specs.declared.State.TheVariants as state
-use Rattle.state.specs.declared.FinishAnswer.{FinishAnswer}
-use Rattle.state.specs.declared.FinishAnswer.TheVariants as finishes
 use Rattle.descent.specs.Whole.{whole_d}
 use Rattle.moment.specs.declared.Request.TheVariants as request
 use Rattle.moment.specs.Moments.{tick, moment_of}
-use Rattle.covering.specs.Lookup.{lookup_of}
+use Rattle.covering.specs.Lookup.{lookup_of, the_leaf}
 use Rattle.covering.specs.Records.{record_of, records_of}
-use Rattle.covering.specs.declared.LookupAnswer.TheVariants as lookups
 use Rattle.proved_cases.specs.Segments.{msdh, sap_word, entry, S, s_scaled}
 
 -- what is lent
@@ -33,10 +30,10 @@ abbrev pub by_tree : List ℕ → Option (List Leaf)
 by_tree bytes = segment msdh bytes
 
 -- what start, one feed of all the bytes and finish give by the byte definition, and what the descent gives
-abbrev pub by_bytes : List ℕ → Out FinishAnswer
+abbrev pub by_bytes : List ℕ → Out (Result ℕ Refusal)
 by_bytes bytes = whole_of msdh bytes work0 table0
 
-abbrev pub by_descent : List ℕ → Out FinishAnswer
+abbrev pub by_descent : List ℕ → Out (Result ℕ Refusal)
 by_descent bytes = whole_d msdh bytes work0 table0
 
 -- a leaf of 60 bytes: position, start, duration, decode time
@@ -59,11 +56,11 @@ work_t duration = entry 1 176 duration ++ replicate 12276 0 ++ entry 0 60 2000 +
 abbrev pub accepted_state : ℕ → List Leaf → State
 accepted_state count leaves = state.Accepted count (length leaves) (record { id = 1; scale = 1000; start = 5000; durations = 5000 })
 
-abbrev pub accepted : ℕ → List Leaf → List ℕ → Out FinishAnswer
-accepted count leaves work = out (finishes.Listed (length leaves)) (accepted_state count leaves) work (table_with leaves)
+abbrev pub accepted : ℕ → List Leaf → List ℕ → Out (Result ℕ Refusal)
+accepted count leaves work = out (Ok (length leaves)) (accepted_state count leaves) work (table_with leaves)
 
-abbrev pub refused_with : Refusal → ℕ → List Leaf → List ℕ → Out FinishAnswer
-refused_with x count leaves work = out (finishes.Refused x) (state.Refused count (length leaves) x) work (table_with leaves)
+abbrev pub refused_with : Refusal → ℕ → List Leaf → List ℕ → Out (Result ℕ Refusal)
+refused_with x count leaves work = out (Err x) (state.Refused count (length leaves) x) work (table_with leaves)
 
 -- These bytes, so many, are accepted: the tree gives these leaves; byte definition and descent answer how many they are, and leave the
 -- accepted state, this work area, and the leaves in the table.
@@ -93,30 +90,30 @@ leaves_of_s = first_of_s ∷ second_of_s ∷ []
 
 -- "lookup in S: 4999 gives 23; 5000 and 6999 leaf 1; 7000 and 9999 leaf 2; 10000 gives 24", with a state and a leaf table
 pub record LookedUp (s : State) (table : List ℕ) : Type 0 where
-  pub at_4999 : lookup_of s table (request.Ticks 4999) ≡ lookups.Refused (refusal 23 0)
-  pub at_5000 : lookup_of s table (request.Ticks 5000) ≡ lookups.Found 1 (record_of first_of_s)
-  pub at_6999 : lookup_of s table (request.Ticks 6999) ≡ lookups.Found 1 (record_of first_of_s)
-  pub at_7000 : lookup_of s table (request.Ticks 7000) ≡ lookups.Found 2 (record_of second_of_s)
-  pub at_9999 : lookup_of s table (request.Ticks 9999) ≡ lookups.Found 2 (record_of second_of_s)
-  pub at_10000 : lookup_of s table (request.Ticks 10000) ≡ lookups.Refused (refusal 24 0)
+  pub at_4999 : lookup_of s table (request.Ticks 4999) ≡ Err (refusal 23 0)
+  pub at_5000 : lookup_of s table (request.Ticks 5000) ≡ Ok (the_leaf 1 (record_of first_of_s))
+  pub at_6999 : lookup_of s table (request.Ticks 6999) ≡ Ok (the_leaf 1 (record_of first_of_s))
+  pub at_7000 : lookup_of s table (request.Ticks 7000) ≡ Ok (the_leaf 2 (record_of second_of_s))
+  pub at_9999 : lookup_of s table (request.Ticks 9999) ≡ Ok (the_leaf 2 (record_of second_of_s))
+  pub at_10000 : lookup_of s table (request.Ticks 10000) ≡ Err (refusal 24 0)
 
 -- The same by seconds: "the leaf found is the one covering the double's exact value times the timescale", which is 1000. A double m / 2^k is
 -- written `fin false m (negsuc (k - 1))`, m odd; `below-n` is the double next below n.
 pub record SecondsLookedUp (s : State) (table : List ℕ) : Type 0 where
-  pub below_5 : lookup_of s table (request.Seconds (fin false 5629499534213119 (negsuc 49))) ≡ lookups.Refused (refusal 23 0)
-  pub at_5 : lookup_of s table (request.Seconds (fin false 5 (pos 0))) ≡ lookups.Found 1 (record_of first_of_s)
-  pub below_7 : lookup_of s table (request.Seconds (fin false 7881299347898367 (negsuc 49))) ≡ lookups.Found 1 (record_of first_of_s)
-  pub at_7 : lookup_of s table (request.Seconds (fin false 7 (pos 0))) ≡ lookups.Found 2 (record_of second_of_s)
-  pub below_10 : lookup_of s table (request.Seconds (fin false 5629499534213119 (negsuc 48))) ≡ lookups.Found 2 (record_of second_of_s)
-  pub at_10 : lookup_of s table (request.Seconds (fin false 5 (pos 1))) ≡ lookups.Refused (refusal 24 0)
+  pub below_5 : lookup_of s table (request.Seconds (fin false 5629499534213119 (negsuc 49))) ≡ Err (refusal 23 0)
+  pub at_5 : lookup_of s table (request.Seconds (fin false 5 (pos 0))) ≡ Ok (the_leaf 1 (record_of first_of_s))
+  pub below_7 : lookup_of s table (request.Seconds (fin false 7881299347898367 (negsuc 49))) ≡ Ok (the_leaf 1 (record_of first_of_s))
+  pub at_7 : lookup_of s table (request.Seconds (fin false 7 (pos 0))) ≡ Ok (the_leaf 2 (record_of second_of_s))
+  pub below_10 : lookup_of s table (request.Seconds (fin false 5629499534213119 (negsuc 48))) ≡ Ok (the_leaf 2 (record_of second_of_s))
+  pub at_10 : lookup_of s table (request.Seconds (fin false 5 (pos 1))) ≡ Err (refusal 24 0)
   -- "Negative zero is zero": here it lies before the list
-  pub negative_zero : lookup_of s table (request.Seconds (fin true 0 (pos 0))) ≡ lookups.Refused (refusal 23 0)
+  pub negative_zero : lookup_of s table (request.Seconds (fin true 0 (pos 0))) ≡ Err (refusal 23 0)
   -- "A value past the end, however large, gives 24": the largest double
-  pub largest : lookup_of s table (request.Seconds (fin false 9007199254740991 (pos 971))) ≡ lookups.Refused (refusal 24 0)
+  pub largest : lookup_of s table (request.Seconds (fin false 9007199254740991 (pos 971))) ≡ Err (refusal 24 0)
   -- "26 for not a number, either infinity, or a value below zero": the smallest subnormal among them
-  pub not_a_number : lookup_of s table (request.Seconds nan) ≡ lookups.Refused (refusal 26 0)
-  pub infinities : (sign : Bool) → lookup_of s table (request.Seconds (inf sign)) ≡ lookups.Refused (refusal 26 0)
-  pub below_zero : lookup_of s table (request.Seconds (fin true 1 (negsuc 1073))) ≡ lookups.Refused (refusal 26 0)
+  pub not_a_number : lookup_of s table (request.Seconds nan) ≡ Err (refusal 26 0)
+  pub infinities : (sign : Bool) → lookup_of s table (request.Seconds (inf sign)) ≡ Err (refusal 26 0)
+  pub below_zero : lookup_of s table (request.Seconds (fin true 1 (negsuc 1073))) ≡ Err (refusal 26 0)
 
 -- S is accepted, and looked up with the state that is left: in the table that is left, and in any that starts with S's records, one of
 -- nothing but these twelve numbers too.
@@ -153,8 +150,8 @@ pub record RoundingMisses : Type 0 where
   pub held : fits binary64 below_edge ≡ true
   pub rounded : mul binary64 below_edge double600 ≡ double7000
   pub tree : by_tree (s_scaled 600) ≡ some leaves_of_s
-  pub fed : by_bytes (s_scaled 600) ≡ out (finishes.Listed 2) (scaled_state 600) work_s (table_with leaves_of_s)
-  pub exact : lookup_of (by_bytes (s_scaled 600)).state (by_bytes (s_scaled 600)).table (request.Seconds below_edge) ≡ lookups.Found 1 (record_of first_of_s)
-  pub descended : by_descent (s_scaled 600) ≡ out (finishes.Listed 2) (scaled_state 600) work_s (table_with leaves_of_s)
+  pub fed : by_bytes (s_scaled 600) ≡ out (Ok 2) (scaled_state 600) work_s (table_with leaves_of_s)
+  pub exact : lookup_of (by_bytes (s_scaled 600)).state (by_bytes (s_scaled 600)).table (request.Seconds below_edge) ≡ Ok (the_leaf 1 (record_of first_of_s))
+  pub descended : by_descent (s_scaled 600) ≡ out (Ok 2) (scaled_state 600) work_s (table_with leaves_of_s)
   pub is_7000 : moment_of (request.Seconds double7000) 1 ≡ some (tick 7000)
-  pub of_rounded : lookup_of (by_bytes (s_scaled 600)).state (by_bytes (s_scaled 600)).table (request.Ticks 7000) ≡ lookups.Found 2 (record_of second_of_s)
+  pub of_rounded : lookup_of (by_bytes (s_scaled 600)).state (by_bytes (s_scaled 600)).table (request.Ticks 7000) ≡ Ok (the_leaf 2 (record_of second_of_s))

@@ -1,12 +1,14 @@
 -- Laws of the tests that ranges are made of: one range, two lists of them, and the numbers that a range is computed from.
-use Prim.Native.Nat.{ℕ, zero, suc, ◌+◌, ◌-◌, ◌^◌, ◌≤◌, ◌<◌}
+use Prim.Native.Nat.{ℕ, suc, ◌≤◌, ◌<◌}
 use mathlib.Core.Path.{◌≡◌, refl, sym, ap, ◌∙◌}
 use mathlib.Core.List.{List, [], ◌∷◌, ◌++◌}
 use mathlib.Core.Bool.{Bool, true, false, ◌&&◌}
 use native.Mathlib.Omega.{arith}
-use lib.Dec.{leb}
+use lib.Dec.{leb, ltb}
 use borrow.Author.Tests.{le-leb, lt-leb}
-use Rattle.state.specs.Ranges.{Bound, at_most, below, within, spelled_bounds, traf_most, index_most, sizes_read, durations_read}
+use mathlib.Core.Logic.{◌⊎◌, inl, inr}
+use Rattle.basics.proofs.Picks.{lt_or_ge}
+use Rattle.state.specs.Ranges.{Bound, at_most, below, within, traf_most, index_most, sizes_read, durations_read}
 use Rattle.state.specs.Sidx.{wide_more}
 use Rattle.state.specs.declared.TrafPart.{TrafPart}
 use Rattle.state.specs.declared.TrafPart.TheVariants as trafPart
@@ -20,6 +22,26 @@ pub all_of_none : true ≡ within []
 unfolding within
 all_of_none = refl
 
+-- one test, of a range, and of one whose lower end is left out
+pub one : (a b : ℕ) → leb a b ≡ within (at_most a b ∷ [])
+unfolding within
+one a b = at (leb a b)
+  where
+    at : (t : Bool) → t ≡ (t && true)
+    at true = refl
+    at false = refl
+
+pub one_below : (a b : ℕ) → ltb a b ≡ within (below a b ∷ [])
+one_below a b = one (suc a) b
+
+-- a test of a range in other numbers
+pub other_test : (a b c d : ℕ) → (a ≤ b → c ≤ d) → (b < a → d < c) → leb a b ≡ leb c d
+other_test a b c d over under = at (lt_or_ge b a)
+  where
+    at : (b < a) ⊎ (a ≤ b) → leb a b ≡ leb c d
+    at (inl h) = lt-leb a b h ∙ sym (lt-leb c d (under h))
+    at (inr h) = le-leb a b h ∙ sym (le-leb c d (over h))
+
 -- a first range that holds, and one that does not
 pub first_holds : (a b : ℕ) (bs : List Bound) → a ≤ b → within bs ≡ within (at_most a b ∷ bs)
 unfolding within
@@ -28,9 +50,6 @@ first_holds a b bs h = sym (ap (λ (t : Bool). t && within bs) (le-leb a b h))
 pub first_fails : (a b : ℕ) (bs : List Bound) → b < a → false ≡ within (at_most a b ∷ bs)
 unfolding within
 first_fails a b bs h = sym (ap (λ (t : Bool). t && within bs) (lt-leb a b h))
-
-pub one_holds : (a b : ℕ) → a ≤ b → true ≡ within (at_most a b ∷ [])
-one_holds a b h = all_of_none ∙ first_holds a b [] h
 
 within_both : (xs ys : List Bound) → within (xs ++ ys) ≡ (within xs && within ys)
 unfolding within
@@ -41,12 +60,16 @@ within_both (x ∷ xs) ys = at (leb x.low x.high) (within_both xs ys)
     at true e = e
     at false e = refl
 
--- the tests of two lists of ranges are joined to the test of both
-pub joined : (xs ys : List Bound) {a b r : Bool} → r ≡ (a && b) → a ≡ within xs → b ≡ within ys → r ≡ within (xs ++ ys)
-joined xs ys {a} {b} e p q = e ∙ ap (λ (t : Bool). t && b) p ∙ ap (λ (t : Bool). within xs && t) q ∙ sym (within_both xs ys)
+-- the tests of two lists of ranges, and of three, are joined to the test of all
+pub joined : (xs ys : List Bound) {a b : Bool} → a ≡ within xs → b ≡ within ys → (a && b) ≡ within (xs ++ ys)
+joined xs ys {a} {b} p q = ap (λ (t : Bool). t && b) p ∙ ap (λ (t : Bool). within xs && t) q ∙ sym (within_both xs ys)
 
-pub joined_first : (x : Bound) (bs : List Bound) {a b r : Bool} → r ≡ (a && b) → a ≡ within (x ∷ []) → b ≡ within bs → r ≡ within (x ∷ bs)
-joined_first x bs = joined (x ∷ []) bs
+pub three : (xs ys zs : List Bound) {a b c : Bool} → a ≡ within xs → b ≡ within ys → c ≡ within zs → ((a && b) && c) ≡ within (xs ++ (ys ++ zs))
+three xs ys zs {a} {b} {c} p q r = at a ∙ joined _ _ p (joined _ _ q r)
+  where
+    at : (t : Bool) → ((t && b) && c) ≡ (t && (b && c))
+    at true = refl
+    at false = refl
 
 -- no number has more than 8 bytes
 wide_low : (w : Bool) → wide_more w < 8

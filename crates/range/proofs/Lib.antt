@@ -1,2 +1,3 @@
 pub mod Joined
 pub mod OneOutcome
+pub mod Listed

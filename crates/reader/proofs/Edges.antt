@@ -3,23 +3,21 @@ use Prim.Native.Nat.{ℕ}
 use mathlib.Core.Path.{◌≡◌, ap}
 use mathlib.Core.List.{List, [], ◌∷◌}
 use native.Mathlib.Omega.{arith}
+use Rattle.std.specs.Prelude.{Some, None, Ok, Err}
 use Rattle.basics.specs.Bytes.{number_from}
 use Rattle.basics.specs.Choose.{pick}
-use Rattle.fields.specs.Answers.{field_at, head_at, checked_at}
-use Rattle.fields.specs.declared.FieldRead.{FieldRead}
-use Rattle.fields.specs.declared.FieldRead.TheVariants as field
-use Rattle.fields.specs.declared.HeadRead.{HeadRead}
-use Rattle.fields.specs.declared.HeadRead.TheVariants as head
+use Rattle.fields.specs.Answers.{field_at, head_at, checked_at, FieldRead, HeadRead}
+use Rattle.fields.specs.declared.Halt.TheVariants as halt
 
 -- what was read, and 0 for nothing
 abbrev value_of : FieldRead → ℕ
-value_of (field.Read v next) = v
-value_of field.Ended = 0
+value_of (Some (v, next)) = v
+value_of None = 0
 
 abbrev size_of : HeadRead → ℕ
-size_of (head.Read h) = h.size
-size_of (head.Bad x) = 0
-size_of head.Ended = 0
+size_of (Ok h) = h.size
+size_of (Err (halt.Bad x)) = 0
+size_of (Err halt.Ended) = 0
 
 abbrev two_bytes : List ℕ
 two_bytes = 1 ∷ 2 ∷ []

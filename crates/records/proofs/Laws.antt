@@ -1,30 +1,26 @@
--- A record put number by number, one read number by number, and the room of a table by its length.
-use Prim.Native.Nat.{ℕ, suc, ◌+◌, ◌*◌, ◌/◌, ◌≤◌, ◌<◌}
+-- A record put in its place, one read number by number, and the room of a table by its length.
+use Prim.Native.Nat.{ℕ, suc, ◌+◌, ◌-◌, ◌*◌, ◌/◌, ◌≤◌, ◌<◌}
 use mathlib.Core.Path.{◌≡◌, ap, sym, ◌∙◌}
-use mathlib.Core.List.{List}
+use mathlib.Core.List.{List, append_assoc}
 use native.Mathlib.Omega.{arith}
 use mathlib.Core.Bool.{false, true}
 use mathlib.Core.Logic.{◌⊎◌, inl, inr}
 use lib.Dec.{ltb, leb}
-use lib.ListN.{length, set, get_or}
+use lib.ListN.{length, take, drop, get_or}
+use borrow.Rule.Slice.PartMut.{put_mid, Post-is}
 use borrow.Author.Tests.{lt-ltb, le-ltb, le-leb, lt-leb, ltb-true, ltb-false, leb-false}
 use Rattle.basics.specs.Put.{put_all}
 use Rattle.basics.proofs.Picks.{lt_or_ge, pick_holds}
+use Rattle.basics.proofs.Put.{put_between}
 use Rattle.table.specs.declared.Record.{Record}
 use Rattle.table.specs.Table.{most_records, record_numbers, numbers_of, record_at, room}
 
--- the numbers of a record, put one after the other
-pub record_put : (table : List ℕ) (i : ℕ) (r : Record) →
-    set (set (set (set (set (set table i r.position) (i + 1) r.size) (i + 2) r.start) (i + 3) r.duration) (i + 4) r.sap) (i + 5) r.time
-    ≡ put_all table i (numbers_of r)
-unfolding put_all
-record_put table i r =
-    let second : i + 1 ≡ suc i = omega arith in
-    let third : i + 2 ≡ suc (suc i) = omega arith in
-    let fourth : i + 3 ≡ suc (suc (suc i)) = omega arith in
-    let fifth : i + 4 ≡ suc (suc (suc (suc i))) = omega arith in
-    let sixth : i + 5 ≡ suc (suc (suc (suc (suc i)))) = omega arith in
-    rw (second, third, fourth, fifth, sixth)
+-- the numbers of a record in the place of those that stand there
+pub record_put : (table : List ℕ) (i : ℕ) (r : Record) → i + 6 ≤ length table →
+    put_mid i (i + 6 - i) table (numbers_of r) ≡ put_all table i (numbers_of r)
+record_put table i r h =
+    let after = Post-is i (i + 6) table (omega arith) in
+    rw after (sym (append_assoc (take i table) (numbers_of r) (drop (i + 6) table)) ∙ sym (put_between table i (numbers_of r) h))
 
 -- a record by its numbers, the first of them where the record starts
 abbrev record_from : List ℕ → ℕ → ℕ → Record

@@ -10,13 +10,10 @@ use table::{DURATION, MOST_RECORDS, NUMBERS, Record, SAP, SIZE, START, TIME};
 pub fn no_room(leaves: u64, len: usize) -> bool
     ensures { (table : List ℕ) → length table ≡ len → result ≡ leb (defs.room table) leaves }
 {
-    if MOST_RECORDS <= leaves {
-        return true;
-    }
-    len < NUMBERS * (leaves as usize) + NUMBERS
+    MOST_RECORDS <= leaves || len < NUMBERS * (leaves as usize) + NUMBERS
 }
 
-// The numbers of a record, in their order.
+// The numbers of a record, in their order. No From: the theorem `numbers_of_once` of docs/PROMISES.md is on this function.
 pub fn numbers_of(r: Record) -> [u64; 6]
     ensures { result ≡ defs.numbers_of r }
 {
@@ -29,15 +26,10 @@ pub fn put_record(table: &mut [u64], leaves: u64, r: Record)
     ensures { table.new ≡ defs.put_record table.old leaves r }
 {
     let i = NUMBERS * (leaves as usize);
-    table[i] = r.position;
-    table[i + SIZE] = r.size;
-    table[i + START] = r.start;
-    table[i + DURATION] = r.duration;
-    table[i + SAP] = r.sap;
-    table[i + TIME] = r.time;
+    table[i..i + NUMBERS].copy_from_slice(&numbers_of(r));
 }
 
-// Record i, from 0.
+// Record i, from 0. Each field is read at its place: an array of the six, taken from the table first, would be no plainer.
 pub fn record_at(table: &[u64], i: usize) -> Record
     requires { defs.record_numbers * i + defs.record_numbers ≤ length table.now }
     ensures { result ≡ defs.record_at table.now i }

@@ -1,10 +1,11 @@
 -- Laws of the whole ticks of seconds: by a double's parts, and as a lookup tells them apart.
+use Rattle.std.specs.Prelude.{Some, None}
 use Prim.Native.Nat.{ℕ, ◌+◌, ◌-◌, ◌*◌, ◌/◌, ◌%◌, ◌^◌, ◌≤◌, ◌<◌}
 use mathlib.Core.Path.{◌≡◌, refl, sym, ap, ◌∙◌, subst}
 use mathlib.Core.Bool.{Bool, true, false, not}
 use mathlib.Core.Option.{none}
 use native.Mathlib.Omega.{arith}
-use native.Mathlib.Nat.{mul_right_comm, mul_assoc, mul-le-mul, mul-le-mul_right, le-div_iff_mul-le, le_of_mul-le-mul_right, eq_of_mul-eq-mul_right}
+use native.Mathlib.Nat.{mul_right_comm, mul_assoc, mul-le-mul, mul-le-mul_right, le-div_iff_mul-le, le_of_mul-le-mul_right, eq_of_mul-eq-mul_right, sub-add_cancel}
 use lib.Dec.{T, ltb}
 use lib.Pow.{pow_pos, pow-add, pow_mono}
 use lib.Ieee.{Float, nan, inf, fin, binary64, of_bits, to_bits, fits, is_nan, ne, eq}
@@ -19,12 +20,9 @@ use Rattle.moment.specs.Worth.{Worth, whole}
 use Rattle.moment.proofs.Whole.{seconds_under}
 use Rattle.moment.proofs.Bits.{hidden, infinite, negative, subnormal_worth, normal_worth, zero_worth, no_time}
 use Rattle.seconds.specs.declared.Parts.{Parts}
-use Rattle.seconds.specs.declared.Split.{Split}
-use Rattle.seconds.specs.declared.Split.TheVariants as split
 use Rattle.seconds.specs.declared.Ticks.{Ticks}
 use Rattle.seconds.specs.declared.Ticks.TheVariants as ticks
 use Rattle.seconds.specs.Ticks.{Exact, Splits, ticks_at, ticks_of}
-use Rattle.seconds.proofs.Halves.{power_split}
 
 holds : (b : Bool) → b ≡ true → T b
 holds true e = tt
@@ -37,7 +35,7 @@ a_number nan e = let z : ◌≡◌ {A = ℕ} 0 1 = cc in absurd (omega arith)
 a_number (inf s) e = tt
 a_number (fin s m e') e = tt
 
-pub no_number : (x : Float) → ne x x ≡ true → Splits x split.NoTime
+pub no_number : (x : Float) → ne x x ≡ true → Splits x None
 unfolding Splits seconds_at
 no_number x e scale = ap (λ (y : Float). seconds_at y scale) (differs_from_itself x (holds (ne x x) e))
 
@@ -52,21 +50,21 @@ module _ (x : Float) (held : fits binary64 x ≡ true) where
   worth_same : (d p scale : ℕ) → Worth (of_bits binary64 bits) d p scale → Worth x d p scale
   worth_same d p scale w = subst (λ (y : Float). Worth y d p scale) same w
 
-  pub split_zero : bits ≡ negative → Splits x (split.Value (record { digits = 0; power = 0 }))
+  pub split_zero : bits ≡ negative → Splits x (Some (record { digits = 0; power = 0 }))
   unfolding Splits
   split_zero e = record { worth = λ scale. worth_same 0 0 scale (zero_worth bits scale e); small = omega arith; leading = λ p. absurd (omega arith) }
 
-  pub split_none : (bits ≡ negative → ⊥) → infinite ≤ bits → Splits x split.NoTime
+  pub split_none : (bits ≡ negative → ⊥) → infinite ≤ bits → Splits x None
   unfolding Splits
   split_none other h scale =
       subst (λ (y : Float). seconds_at y scale ≡ none) same (no_time bits scale h other (to_bits-lt binary64 x (holds (fits binary64 x) held)))
 
-  pub split_subnormal : bits < infinite → bits / hidden ≡ 0 → Splits x (split.Value (record { digits = bits % hidden; power = 0 }))
+  pub split_subnormal : bits < infinite → bits / hidden ≡ 0 → Splits x (Some (record { digits = bits % hidden; power = 0 }))
   unfolding Splits
   split_subnormal h e =
       record { worth = λ scale. worth_same (bits % hidden) 0 scale (subnormal_worth bits scale (omega arith)); small = omega arith; leading = λ p. absurd (omega arith) }
 
-  pub split_normal : bits < infinite → (bits / hidden ≡ 0 → ⊥) → Splits x (split.Value (record { digits = hidden + bits % hidden; power = bits / hidden - 1 }))
+  pub split_normal : bits < infinite → (bits / hidden ≡ 0 → ⊥) → Splits x (Some (record { digits = hidden + bits % hidden; power = bits / hidden - 1 }))
   unfolding Splits
   split_normal h some' =
       record {
@@ -75,40 +73,25 @@ module _ (x : Float) (held : fits binary64 x ≡ true) where
         leading = λ p. omega arith;
       }
 
--- what the parts say
-pub no_parts : (x : Float) (r : Split) → r ≡ split.NoTime → Splits x r → (scale : ℕ) → seconds_at x scale ≡ none
-unfolding Splits
-no_parts x r e s = subst (λ (y : Split). Splits x y) e s
-
-pub the_parts : (x : Float) (r : Split) (p : Parts) → r ≡ split.Value p → Splits x r → Exact x p
-unfolding Splits
-the_parts x r p e s = subst (λ (y : Split). Splits x y) e s
-
--- the halves of a number, as ticks
-module _ (high low : ℕ) (small : low < 2 ^ 64) where
-  pub ticks_at_lem : high ≡ 0 → ticks.At low ≡ ticks_at (high * 2 ^ 64 + low)
+-- a number as ticks
+module _ (n : ℕ) where
+  pub ticks_at_lem : n < 2 ^ 64 → ticks.At n ≡ ticks_at n
   unfolding ticks_at
-  ticks_at_lem e =
-      let n : low ≡ high * 2 ^ 64 + low = omega arith in
-      ap (λ (q : ℕ). ticks.At q) n ∙ sym (pick_yes _ _ _ (lt-ltb (high * 2 ^ 64 + low) (2 ^ 64) (omega arith)))
+  ticks_at_lem h = sym (pick_yes _ _ _ (lt-ltb n (2 ^ 64) h))
 
-  pub ticks_beyond : high ≡ 1 → ticks.Beyond low ≡ ticks_at (high * 2 ^ 64 + low)
+  pub ticks_beyond : 2 ^ 64 ≤ n → n < 2 ^ 65 → ticks.Beyond (n - 2 ^ 64) ≡ ticks_at n
   unfolding ticks_at
-  ticks_beyond e =
-      let n : low ≡ high * 2 ^ 64 + low - 2 ^ 64 = omega arith in
-      ap (λ (q : ℕ). ticks.Beyond q) n
-      ∙ sym (pick_no _ _ _ (le-ltb (high * 2 ^ 64 + low) (2 ^ 64) (omega arith)) ∙ pick_yes _ _ _ (lt-ltb (high * 2 ^ 64 + low) (2 ^ 65) (omega arith)))
+  ticks_beyond h k = sym (pick_no _ _ _ (le-ltb n (2 ^ 64) h) ∙ pick_yes _ _ _ (lt-ltb n (2 ^ 65) k))
 
-pub ticks_past : (n : ℕ) → 2 ^ 65 ≤ n → ticks.Past ≡ ticks_at n
-unfolding ticks_at
-ticks_past n h = sym (pick_no _ _ _ (le-ltb n (2 ^ 64) (omega arith)) ∙ pick_no _ _ _ (le-ltb n (2 ^ 65) h))
+  pub ticks_past : 2 ^ 65 ≤ n → ticks.Past ≡ ticks_at n
+  unfolding ticks_at
+  ticks_past h = sym (pick_no _ _ _ (le-ltb n (2 ^ 64) (omega arith)) ∙ pick_no _ _ _ (le-ltb n (2 ^ 65) h))
 
 -- what an answer tells of the ticks
 abbrev pub Told : ℕ → Ticks → Type 0
 Told n (ticks.At t) = n ≡ t
 Told n (ticks.Beyond t) = n ≡ 2 ^ 64 + t
 Told n ticks.Past = 2 ^ 65 ≤ n
-Told n ticks.NoTime = ⊥
 
 pub ticks_told : (n : ℕ) → Told n (ticks_at n)
 unfolding ticks_at
@@ -117,6 +100,10 @@ ticks_told n =
     (λ high.
     let from : 2 ^ 64 ≤ n = ltb-false n (2 ^ 64) high in
     pick_holds (Told n) (ltb n (2 ^ 65)) (ticks.Beyond (n - 2 ^ 64)) ticks.Past (λ h. omega arith) (λ h. ltb-false n (2 ^ 65) h))
+
+-- two powers that make a third
+power_split : (i k : ℕ) → i ≤ k → 2 ^ k ≡ 2 ^ (k - i) * 2 ^ i
+power_split i k h = ap (λ (j : ℕ). 2 ^ j) (sym (sub-add_cancel h)) ∙ pow-add 2 (k - i) i
 
 -- a fraction n / m that is d · 2^p · s / c, where 2^l is c · k: without the power, over what of 2^l is left
 lower_fraction : (n m d s p l c k : ℕ) → 0 < m → p ≤ l → c * k ≡ 2 ^ l → n * c ≡ d * 2 ^ p * s * m → n / m ≡ d * s * k / 2 ^ (l - p)
@@ -151,7 +138,7 @@ past_fraction n m d s p c pos some' scaled leading far e =
 
 -- the whole ticks of a double's parts
 module _ (x : Float) (scale : ℕ) where
-  pub no_ticks : seconds_at x scale ≡ none → ticks.NoTime ≡ ticks_of (seconds_at x scale)
+  pub no_ticks : seconds_at x scale ≡ none → None ≡ ticks_of (seconds_at x scale)
   unfolding ticks_of
   no_ticks e = rw e
 
@@ -159,26 +146,26 @@ module _ (x : Float) (scale : ℕ) where
     parts_under : 0 < (exact.worth scale).time.under
     parts_under = seconds_under x scale (exact.worth scale).time (exact.worth scale).taken
 
-    taken : ticks_of (seconds_at x scale) ≡ ticks_at (whole (exact.worth scale).time)
+    taken : ticks_of (seconds_at x scale) ≡ Some (ticks_at (whole (exact.worth scale).time))
     unfolding ticks_of
     taken = ap ticks_of (exact.worth scale).taken
 
-    pub ticks_lowered : p.power ≤ 1086 → ticks_at (p.digits * scale * 4096 / 2 ^ (1086 - p.power)) ≡ ticks_of (seconds_at x scale)
+    pub ticks_lowered : p.power ≤ 1086 → Some (ticks_at (p.digits * scale * 4096 / 2 ^ (1086 - p.power))) ≡ ticks_of (seconds_at x scale)
     ticks_lowered near =
         let w = exact.worth scale in
-        sym (taken ∙ ap ticks_at (lower_fraction w.time.over w.time.under p.digits scale p.power 1086 (2 ^ 1074) 4096 parts_under near (sym (pow-add 2 1074 12)) w.value))
+        sym (taken ∙ ap (λ (n : ℕ). Some (ticks_at n)) (lower_fraction w.time.over w.time.under p.digits scale p.power 1086 (2 ^ 1074) 4096 parts_under near (sym (pow-add 2 1074 12)) w.value))
 
-    pub ticks_far : 1086 < p.power → 0 < scale → ticks.Past ≡ ticks_of (seconds_at x scale)
+    pub ticks_far : 1086 < p.power → 0 < scale → Some ticks.Past ≡ ticks_of (seconds_at x scale)
     ticks_far far scaled =
         let w = exact.worth scale in
         let power : 2 ^ 1074 * 2 ^ 13 ≤ 2 ^ p.power = rw (← pow-add 2 1074 13) (pow_mono {i = 1087} {j = p.power} far) in
-        ticks_past (whole w.time)
-        (past_fraction w.time.over w.time.under p.digits scale p.power (2 ^ 1074) parts_under (pow_pos 1074) scaled (exact.leading (omega arith)) power w.value)
+        ap (λ (t : Ticks). Some t) (ticks_past (whole w.time)
+        (past_fraction w.time.over w.time.under p.digits scale p.power (2 ^ 1074) parts_under (pow_pos 1074) scaled (exact.leading (omega arith)) power w.value))
         ∙ sym taken
 
 -- the whole ticks of a request
-pub request_ticks : (t scale : ℕ) → t < 2 ^ 64 → ticks.At t ≡ ticks_of (moment_of (request.Ticks t) scale)
+pub request_ticks : (t scale : ℕ) → t < 2 ^ 64 → Some (ticks.At t) ≡ ticks_of (moment_of (request.Ticks t) scale)
 unfolding moment_of ticks_of ticks_at
 request_ticks t scale h =
     let e : t / 1 ≡ t = omega arith in
-    sym (ap ticks_at e ∙ pick_yes (ltb t (2 ^ 64)) _ _ (lt-ltb t (2 ^ 64) h))
+    sym (ap (λ (n : ℕ). Some (ticks_at n)) e ∙ ap (λ (q : Ticks). Some q) (pick_yes (ltb t (2 ^ 64)) _ _ (lt-ltb t (2 ^ 64) h)))

@@ -2,9 +2,9 @@
 // to a lookup, since a leaf starts and ends at a tick.
 #![tactic(auto)]
 
-ghost use Rattle.std.specs.Prelude.{◌≡◌, ◌+◌, ◌*◌, ◌/◌, ◌^◌, ◌<◌};
+ghost use Rattle.std.specs.Prelude.{◌≡◌, ◌*◌, ◌/◌, ◌^◌, ◌<◌};
 ghost use Rattle.moment.specs.Moments.{seconds_at, moment_of};
-ghost use Rattle.seconds.specs.Ticks.{Splits, wide, ticks_at, ticks_of};
+ghost use Rattle.seconds.specs.Ticks.{Splits, ticks_at, ticks_of};
 
 use moment::Request;
 
@@ -15,26 +15,12 @@ struct Parts {
     power: u64,
 }
 
-#[derive(Clone, Copy)]
-enum Split {
-    Value(Parts),
-    NoTime,
-}
-
-// A number of up to 128 bits: high * 2^64 + low.
-#[derive(Clone, Copy)]
-struct Wide {
-    high: u64,
-    low: u64,
-}
-
-// Whole ticks: so many; 2^64 and so many; 2^65 or more, which no record reaches; or none, since the seconds are no time.
+// Whole ticks: so many; 2^64 and so many; 2^65 or more, which no record reaches.
 #[derive(Clone, Copy)]
 pub enum Ticks {
     At(u64),
     Beyond(u64),
     Past,
-    NoTime,
 }
 
 // What one more in the exponent adds to the bits.
@@ -52,32 +38,35 @@ const NEGATIVE_ZERO: u64 = 9223372036854775808;
 // From the next power on, the lowest digit of a value is 2^13 seconds and its leading one 2^65, which is past all records.
 const MOST_POWER: u64 = 1086;
 
-// Exponent and fraction. A not-a-number is told before its bits are asked for, since it may have any of several.
-fn parts_of(x: f64) -> Split
+// Numbers of 64 bits are below this.
+const FULL: u128 = 18446744073709551616;
+
+// Exponent and fraction; none of what is no time. A not-a-number is told before its bits are asked for, since it may have any of several.
+fn parts_of(x: f64) -> Option<Parts>
     ensures { Splits x result }
 {
     if x != x {
-        return Split::NoTime;
+        return None;
     }
     let bits: u64 = f64::to_bits(x);
     if bits == NEGATIVE_ZERO {
-        return Split::Value(Parts {
+        return Some(Parts {
             digits: 0,
             power: 0,
         });
     }
     if INFINITE <= bits {
-        return Split::NoTime;
+        return None;
     }
     let exponent = bits / EXPONENT;
     let fraction = bits % EXPONENT;
     if exponent == 0 {
-        return Split::Value(Parts {
+        return Some(Parts {
             digits: fraction,
             power: 0,
         });
     }
-    Split::Value(Parts {
+    Some(Parts {
         digits: LEADING + fraction,
         power: exponent - 1,
     })
@@ -85,84 +74,55 @@ fn parts_of(x: f64) -> Split
 
 // digits * scale * 2^12, of up to 97 bits. The highest power that is not past all records makes the lowest digit 2^12 seconds: with so much
 // put in at once, any other power is a shift to the right.
-fn product(digits: u64, scale: u64) -> Wide
+fn product(digits: u64, scale: u64) -> u128
     requires digits_fit { digits < 2 ^ 53 }
     requires scale_fits { scale < 2 ^ 32 }
-    ensures { wide result ≡ digits * scale * 4096 }
+    ensures { result ≡ digits * scale * 4096 }
 {
-    let lower = digits % 4294967296 * scale;
-    let upper = digits / 4294967296 * scale + lower / 4294967296;
-    Wide {
-        high: upper / 1048576,
-        low: upper % 1048576 * 17592186044416 + lower % 4294967296 * 4096,
-    }
+    digits as u128 * scale as u128 * 4096
 }
 
 // Halved k times, without the fraction.
-fn lowered(w: Wide, k: u64) -> Wide
-    ensures { wide result ≡ wide w / 2 ^ k }
+fn lowered(n: u128, k: u64) -> u128
+    ensures { result ≡ n / 2 ^ k }
 {
-    let high = w.high;
-    let low = w.low;
-    if 128 <= k {
-        return Wide { high: 0, low: 0 };
-    }
-    if 64 <= k {
-        return Wide {
-            high: 0,
-            low: high >> (k - 64),
-        };
-    }
-    if k == 0 {
-        return w;
-    }
-    Wide {
-        high: high >> k,
-        low: (high << (64 - k)) + (low >> k),
-    }
+    if 128 <= k { 0 } else { n >> k }
 }
 
 // As many ticks as a lookup tells apart.
-fn ticks_of(w: Wide) -> Ticks
-    ensures { result ≡ ticks_at (wide w) }
+fn ticks_at(n: u128) -> Ticks
+    ensures { result ≡ ticks_at n }
 {
-    let high = w.high;
-    let low = w.low;
-    if high == 0 {
-        return Ticks::At(low);
+    if n < FULL {
+        Ticks::At(n as u64)
+    } else if n < 2 * FULL {
+        Ticks::Beyond((n - FULL) as u64)
+    } else {
+        Ticks::Past
     }
-    if high == 1 {
-        return Ticks::Beyond(low);
-    }
-    Ticks::Past
 }
 
-// The whole ticks of x seconds.
-fn whole_ticks(x: f64, scale: u64) -> Ticks
+// The whole ticks of x seconds; none where they are no time.
+fn whole_ticks(x: f64, scale: u64) -> Option<Ticks>
     requires scaled { 0 < scale }
     requires scale_fits { scale < 2 ^ 32 }
     ensures { result ≡ ticks_of (seconds_at x scale) }
 {
-    let got = parts_of(x);
-    let Split::Value(parts) = got else {
-        return Ticks::NoTime;
-    };
-    let digits = parts.digits;
-    let power = parts.power;
+    let Parts { digits, power } = parts_of(x)?;
     if MOST_POWER < power {
-        return Ticks::Past;
+        return Some(Ticks::Past);
     }
-    ticks_of(lowered(product(digits, scale), MOST_POWER - power))
+    Some(ticks_at(lowered(product(digits, scale), MOST_POWER - power)))
 }
 
-// The whole ticks of a request.
-pub fn ticks_asked(request: Request, scale: u64) -> Ticks
+// The whole ticks of a request; none where its seconds are no time.
+pub fn ticks_asked(request: Request, scale: u64) -> Option<Ticks>
     requires scaled { 0 < scale }
     requires scale_fits { scale < 2 ^ 32 }
     ensures { result ≡ ticks_of (moment_of request scale) }
 {
     match request {
-        Request::Ticks(t) => Ticks::At(t),
+        Request::Ticks(t) => Some(Ticks::At(t)),
         Request::Seconds(x) => whole_ticks(x, scale),
     }
 }

@@ -1,4 +1,5 @@
 -- What the bytes of a number leave when they are taken together: the piece reads on as it did, and the state stays in its ranges.
+use Rattle.std.specs.Prelude.{ℕ, Result}
 use Prim.Native.Nat.{ℕ, ◌+◌, ◌-◌, ◌≤◌, ◌<◌}
 use mathlib.Core.Path.{◌≡◌, refl, ap, sym, subst, ◌∙◌}
 use mathlib.Core.List.{List, [], ◌∷◌}
@@ -10,15 +11,12 @@ use denote.Enum.Declared.{tag_of}
 use lib.ListN.{length, get_or, take, drop, take-append-drop, length-drop, drop_of_length-le}
 use lib.Seq.{length-take-le, take_all}
 use Rattle.basics.specs.Bytes.{number_from, AllBytes}
-use Rattle.basics.specs.Choose.{pick}
-use Rattle.basics.proofs.Picks.{pick_holds}
 use Rattle.segment.specs.Constants.{limit}
+use Rattle.machine.specs.declared.Refusal.{Refusal}
 use Rattle.state.specs.Flow.{work_bytes}
-use Rattle.state.specs.declared.FeedAnswer.{FeedAnswer}
 use Rattle.state.specs.declared.Stage.{Stage}
 use Rattle.state.specs.declared.State.{State}
 use Rattle.state.specs.declared.State.TheVariants as state
-use Rattle.basics.specs.Put.{put_all}
 use Rattle.state.specs.Step.{step_all}
 use Rattle.state.specs.Calls.{Out, flow_of, state_of, fed, feed_state}
 use Rattle.state.specs.Numbers.{stage_number, stage_on, work_on, put_in, Short, Fits}
@@ -32,8 +30,9 @@ use Rattle.state.proofs.RangeTests.{spelled_within}
 use Rattle.state.proofs.Ranges.{feed_state_kept}
 use Rattle.state.specs.contracts.State.{the_type}
 use Rattle.number_at_hand.specs.declared.AtHand.{AtHand}
-use Rattle.number_at_hand.specs.Views.{is_stored, next_place, at_hand_of}
-use Rattle.spelling.specs.Together.{Taken, taken, together, together_now, spelled_on}
+use Rattle.number_at_hand.specs.Views.{next_place, at_hand_of}
+use Rattle.std.specs.Prelude.{slice_range}
+use Rattle.spelling.specs.Together.{Taken, taken, together, together_now, spelled_on, stored_in, Room}
 
 -- none of them is the last, they are there, and the count stays within the limit
 together_more : (more rest n : ℕ) → together more rest n ≤ more
@@ -45,17 +44,17 @@ together_rest more rest n = omega (arith, least_second more (least rest (limit -
 together_limit : (more rest n : ℕ) → n ≤ limit → n + together more rest n ≤ limit
 together_limit more rest n low = omega (arith, low, least_second more (least rest (limit - n)), least_second rest (limit - n))
 
--- what is stored of them
-stored_same : (place : Option ℕ) (more k : ℕ) (work xs : List ℕ) → put_all work (next_place place more) (take (pick (is_stored place) k 0) xs) ≡ put_in place more work (take k xs)
-unfolding is_stored next_place put_in put_all pick
-stored_same none more k work xs = refl
-stored_same (some i) more k work xs = refl
+-- they are stored where the number is
+stored_same : (place : Option ℕ) (more : ℕ) (work bytes : List ℕ) → stored_in (next_place place more) work bytes ≡ put_in place more work bytes
+unfolding next_place put_in stored_in
+stored_same none more work bytes = refl
+stored_same (some i) more work bytes = refl
 
 -- their places are inside the work area
-stored_fits : (place : Option ℕ) (more k : ℕ) → Short place more → k ≤ more → next_place place more + pick (is_stored place) k 0 ≤ work_bytes
-unfolding is_stored next_place Short pick
-stored_fits none more k short most = omega arith
-stored_fits (some i) more k short most = omega (arith, short.0, short.1)
+stored_fits : (place : Option ℕ) (more k long : ℕ) → Short place more → k ≤ more → work_bytes ≤ long → Room (next_place place more) k long
+unfolding next_place Short Room
+stored_fits none more k long short most there = tt
+stored_fits (some i) more k long short most there = omega (arith, short.0, short.1)
 
 -- a state that reads no more stays as it is
 pub others_stay : (s : State) (piece : List ℕ) (i : ℕ) (work : List ℕ) → OneOf (1 ∷ 2 ∷ 3 ∷ []) (tag_of the_type s) → taken s i work ≡ spelled_on s piece i work
@@ -67,25 +66,20 @@ others_stay (state.Ended n leaves top) piece i work e = refl
 others_stay (state.Refused n leaves x) piece i work e = refl
 others_stay (state.Accepted n leaves top) piece i work e = refl
 
--- The stage whose number is told as `x`, and `k` of its bytes.
-module _ (s : Stage) (x : AtHand) (k : ℕ) (piece : List ℕ) (i : ℕ) (work : List ℕ) (e : x ≡ at_hand_of (stage_number s)) where
-  pub acc_fits : Fits (stage_number s) → k ≤ x.more → Within (spelled_bounds 7 k x.acc)
+-- The stage whose number is told as `x`, and bytes of it.
+module _ (s : Stage) (x : AtHand) (bytes work : List ℕ) (e : x ≡ at_hand_of (stage_number s)) where
+  pub acc_fits : Fits (stage_number s) → length bytes ≤ x.more → Within (spelled_bounds 7 (length bytes) x.acc)
   acc_fits fits most =
       let w : Within (spelled_bounds 7 x.more x.acc) = rw e fits.0 in
-      spelled_within 7 x.more 7 k x.acc (omega (arith, w.0)) (omega arith) w
+      spelled_within 7 x.more 7 (length bytes) x.acc (omega (arith, w.0)) (omega arith) w
 
-  pub bytes_fit : (m : ℕ) → m ≡ pick x.stored k 0 → Fits (stage_number s) → k ≤ x.more → i + k ≤ length piece → work_bytes ≤ length work →
-      (i + m ≤ length piece) × (x.place + m ≤ length work)
-  bytes_fit m em fits most there long =
-      let a : m ≤ k = rw em (pick_holds (λ (j : ℕ). j ≤ k) x.stored k 0 (λ t. omega arith) (λ t. omega arith)) in
-      let b : x.place + m ≤ work_bytes = rw (em, e) (stored_fits (stage_number s).place (stage_number s).more k fits.1 (rw e at most)) in
-      (omega (arith, there), omega (arith, long))
+  pub bytes_fit : Fits (stage_number s) → length bytes ≤ x.more → work_bytes ≤ length work → Room x.place (length bytes) (length work)
+  bytes_fit fits most long = rw e (stored_fits (stage_number s).place (stage_number s).more (length bytes) (length work) fits.1 (rw e at most) long)
 
-  pub stage_moves : (m acc : ℕ) (r : Stage) (work' : List ℕ) → m ≡ pick x.stored k 0 → acc ≡ number_from x.acc (take k (drop i piece)) →
-      work' ≡ put_all work x.place (take m (drop i piece)) → r ≡ (stage_number s).again (x.more - k) acc →
-      (r ≡ stage_on s k (take k (drop i piece))) × (work' ≡ work_on s work (take k (drop i piece)))
-  stage_moves m acc r work' em ea ew er =
-      (rw (er, ea, e) refl, rw (ew, em, e) (stored_same (stage_number s).place (stage_number s).more k work (drop i piece)))
+  pub stage_moves : (acc : ℕ) (r : Stage) (work' : List ℕ) → acc ≡ number_from x.acc bytes → work' ≡ stored_in x.place work bytes →
+      r ≡ (stage_number s).again (x.more - length bytes) acc → (r ≡ stage_on s (length bytes) bytes) × (work' ≡ work_on s work bytes)
+  stage_moves acc r work' ea ew er =
+      (rw (er, ea, e) refl, rw (ew, e) (stored_same (stage_number s).place (stage_number s).more work bytes))
 
 -- bytes of a piece of bytes
 bytes_inside : (piece : List ℕ) (i k : ℕ) → ((j : ℕ) → get_or piece j 0 < 256) → AllBytes (take k (drop i piece))
@@ -113,7 +107,7 @@ module _ (s : Stage) (n leaves now last : ℕ) (r : InRange (state.Reading n lea
       let b : drop (0 + k) bytes ≡ [] = drop_of_length-le bytes {i = 0 + k} (omega (arith, e)) in
       let same = number_fed k 0 bytes [] [] most low (omega (arith, e)) in
       let kept = feed_state_kept (state.Reading n leaves now last s) bytes [] [] all r in
-      rw (a, b) at (subst (λ (o : Out FeedAnswer). InRange o.state) (sym same) kept)
+      rw (a, b) at (subst (λ (o : Out (Result ℕ Refusal)). InRange o.state) (sym same) kept)
 
 -- whatever the state: bytes are left, and they are read on as before
 pub spelled_later : (s : State) (piece : List ℕ) (i : ℕ) (work : List ℕ) → i < length piece → (i ≤ (spelled_on s piece i work).at) × ((spelled_on s piece i work).at < length piece)
@@ -172,10 +166,18 @@ module _ {q : State} {n leaves now last : ℕ} {s : Stage} (same : q ≡ state.R
     pub place_fits : i < length piece → i + k < length piece
     place_fits h = omega (arith, h, as_defined, together_rest (stage_number s).more (length piece - i - 1) n)
 
-    pub number_fits : i < length piece → work_bytes ≤ length work →
-        (x ≡ at_hand_of (stage_number s)) × Fits (stage_number s) × (k ≤ x.more) × (i + k ≤ length piece) × (work_bytes ≤ length work)
-    number_fits h long =
-        (ex, stage_fits s now stage_inside, rw ek (together_more x.more (length piece - i - 1) n), omega (arith, place_fits h), long)
+    -- the bytes that are taken
+    here : (on : ℕ) → on ≡ i + k → i < length piece → (slice_range piece i on ≡ take k (drop i piece)) × (length (slice_range piece i on) ≡ k)
+    here on eo h =
+        let a : on - i ≡ k = omega arith in
+        let f : i + k < length piece = place_fits h in
+        (rw a refl, rw a (length-take-le k (drop i piece) (simp length-drop (omega (arith, f)))))
+
+    pub number_fits : (on : ℕ) → on ≡ i + k → i < length piece → work_bytes ≤ length work →
+        (x ≡ at_hand_of (stage_number s)) × Fits (stage_number s) × (length (slice_range piece i on) ≤ x.more) × (work_bytes ≤ length work)
+    number_fits on eo h long =
+        let m : k ≤ x.more = rw ek (together_more x.more (length piece - i - 1) n) in
+        (ex, stage_fits s now stage_inside, omega (arith, (here on eo h).1, m), long)
 
     pub nothing_taken : k ≡ 0 → (taken (state.Reading n leaves now last s) i work ≡ spelled_on q piece i work) × InRange (state.Reading n leaves now last s)
     unfolding spelled_on
@@ -185,10 +187,10 @@ module _ {q : State} {n leaves now last : ℕ} {s : Stage} (same : q ≡ state.R
         let b : i + 0 ≡ i = omega arith in
         (rw (same, z, a, b, none_on s, none_put s work) refl, inside)
 
-    pub number_taken_on : (next : Stage) (work' : List ℕ) → (next ≡ stage_on s k (take k (drop i piece))) × (work' ≡ work_on s work (take k (drop i piece))) →
-        taken (state.Reading (n + k) leaves now last next) (i + k) work' ≡ spelled_on q piece i work
+    pub number_taken_on : (on : ℕ) → on ≡ i + k → i < length piece → (next : Stage) (work' : List ℕ) → let bytes : List ℕ = slice_range piece i on in
+        (next ≡ stage_on s (length bytes) bytes) × (work' ≡ work_on s work bytes) → taken (state.Reading (n + k) leaves now last next) on work' ≡ spelled_on q piece i work
     unfolding spelled_on
-    number_taken_on next work' e = rw (same, e.0, e.1, as_defined) refl
+    number_taken_on on eo h next work' e = rw (same, e.0, e.1, (here on eo h).1, (here on eo h).0, eo, as_defined) refl
 
 -- what is as the definition says is in its ranges
 pub then_inside : (q s : State) (piece : List ℕ) (i j : ℕ) (work work' : List ℕ) → InRange q → i < length piece → ((m : ℕ) → get_or piece m 0 < 256) →

@@ -1,5 +1,6 @@
 -- The bytes of a number that are taken together, whatever the state, and what they leave.
-use Rattle.std.specs.Prelude.{ℕ, ◌+◌, ◌-◌, List, length, take, drop}
+use Rattle.std.specs.Prelude.{ℕ, ◌+◌, ◌-◌, ◌≤◌, List, length, take, drop, Option, Some, None}
+use Rattle.basics.specs.Put.{put_all}
 use Rattle.segment.specs.Constants.{limit}
 use Rattle.state.specs.Jump.{least}
 use Rattle.state.specs.Numbers.{stage_number, stage_on, work_on}
@@ -33,3 +34,12 @@ spelled_on (state.Reading n leaves now last s) piece i work =
 spelled_on (state.Ended n leaves top) piece i work = taken (state.Ended n leaves top) i work
 spelled_on (state.Refused n leaves x) piece i work = taken (state.Refused n leaves x) i work
 spelled_on (state.Accepted n leaves top) piece i work = taken (state.Accepted n leaves top) i work
+
+-- bytes stored from a place on, if there is one; and they have room there
+unfoldable pub stored_in : Option ℕ → List ℕ → List ℕ → List ℕ
+stored_in None work bytes = work
+stored_in (Some place) work bytes = put_all work place bytes
+
+unfoldable pub Room : Option ℕ → ℕ → ℕ → Type 0
+Room None count long = Unit {0}
+Room (Some place) count long = place + count ≤ long

@@ -1,16 +1,14 @@
 // The bytes of the number that is being read, taken together: none of them is its last, and the state after them.
 #![tactic(auto)]
 
-ghost use Rattle.std.specs.Prelude.{◌≡◌, ◌+◌, ◌-◌, ◌≤◌, ◌<◌, length, take, drop};
+ghost use Rattle.std.specs.Prelude.{◌≡◌, ◌≤◌, ◌<◌, length};
 ghost use Rattle.basics.specs.Bytes.{number_from};
-ghost use Rattle.basics.specs.Choose.{pick};
 ghost use Rattle.segment.specs.Constants.{limit};
 ghost use Rattle.state.specs.Flow.{work_bytes};
-ghost use Rattle.basics.specs.Put.{put_all};
 ghost use Rattle.state.specs.Numbers.{stage_number, stage_on, work_on, Fits};
 ghost use Rattle.state.specs.Ranges.{Within, InRange, spelled_bounds};
 ghost use Rattle.number_at_hand.specs.Views.{at_hand_of};
-ghost use Rattle.spelling.specs.Together.{taken, together, spelled_on};
+ghost use Rattle.spelling.specs.Together.{taken, together, spelled_on, stored_in, Room};
 
 use header::spelled;
 use jump::least;
@@ -24,50 +22,40 @@ pub struct Moved {
     pub at: usize,
 }
 
-// The number that bytes of a piece spell after those that spelled `acc`.
-pub fn spell_bytes(acc: u64, piece: &[u8], i: usize, k: usize) -> u64
-    requires { (i + k ≤ length piece.now) × Within (spelled_bounds 7 k acc) }
-    ensures { result ≡ number_from acc (take k (drop i piece.now)) }
+// The number that bytes spell after those that spelled `acc`.
+pub fn spell_bytes(acc: u64, bytes: &[u8]) -> u64
+    requires { Within (spelled_bounds 7 (length bytes.now) acc) }
+    ensures { result ≡ number_from acc bytes.now }
 {
     let mut r = acc;
-    let mut j = 0;
-    while j < k {
-        r = spelled(r, piece[i + j]);
-        j += 1;
+    for b in bytes {
+        r = spelled(r, *b);
     }
     r
 }
 
-// Bytes of a piece, stored as read.
-fn store_bytes(work: &mut [u8], at: usize, piece: &[u8], i: usize, k: usize)
-    requires { (i + k ≤ length piece.now) × (at + k ≤ length work.old) }
-    ensures { work.new ≡ put_all work.old at (take k (drop i piece.now)) }
+// Bytes of a number, stored as read where they are stored.
+fn store_bytes(place: Option<u64>, bytes: &[u8], work: &mut [u8])
+    requires { Room place (length bytes.now) (length work.old) }
+    ensures { work.new ≡ stored_in place work.old bytes.now }
 {
-    let mut j = 0;
-    while j < k {
-        work[at + j] = piece[i + j];
-        j += 1;
+    match place {
+        None => {}
+        Some(place) => {
+            let at = place as usize;
+            work[at..at + bytes.len()].copy_from_slice(bytes);
+        }
     }
 }
 
-// How many of `k` bytes are stored.
-fn stored_of(x: AtHand, k: u64) -> u64
-    ensures { result ≡ pick x.stored k 0 }
+// The stage after bytes of its number, none of them the last.
+fn stage_on(s: Stage, x: AtHand, bytes: &[u8], work: &mut [u8]) -> Stage
+    requires { (x ≡ at_hand_of (stage_number s)) × Fits (stage_number s) × (length bytes.now ≤ x.more) × (work_bytes ≤ length work.old) }
+    ensures { (result ≡ stage_on s (length bytes.now) bytes.now) × (work.new ≡ work_on s work.old bytes.now) }
 {
-    if x.stored {
-        return k;
-    }
-    0
-}
-
-// The stage after `k` bytes of its number, none of them the last.
-fn stage_on(s: Stage, x: AtHand, k: u64, piece: &[u8], i: usize, work: &mut [u8]) -> Stage
-    requires { (x ≡ at_hand_of (stage_number s)) × Fits (stage_number s) × (k ≤ x.more) × (i + k ≤ length piece.now) × (work_bytes ≤ length work.old) }
-    ensures { (result ≡ stage_on s k (take k (drop i piece.now))) × (work.new ≡ work_on s work.old (take k (drop i piece.now))) }
-{
-    let acc = spell_bytes(x.acc, piece, i, k as usize);
-    store_bytes(work, x.place as usize, piece, i, stored_of(x, k) as usize);
-    stage_again(s, x.more - k, acc)
+    store_bytes(x.place, bytes, work);
+    let acc = spell_bytes(x.acc, bytes);
+    stage_again(s, x.more - (bytes.len() as u64), acc)
 }
 
 // How many of `rest` bytes, with `n` before them, are taken together.
@@ -99,7 +87,8 @@ pub fn spell_on(s: State, piece: &[u8], i: usize, work: &mut [u8]) -> Moved
     if k == 0 {
         return Moved { state: s, at: i };
     }
-    let next = stage_on(stage, x, k, piece, i, work);
+    let on = i + (k as usize);
+    let next = stage_on(stage, x, &piece[i..on], work);
     Moved {
         state: State::Reading {
             count: count + k,
@@ -108,6 +97,6 @@ pub fn spell_on(s: State, piece: &[u8], i: usize, work: &mut [u8]) -> Moved
             last,
             stage: next,
         },
-        at: i + (k as usize),
+        at: on,
     }
 }

@@ -1,4 +1,9 @@
 -- An entry's first byte, and the first box of an index entry.
+use Rattle.std.specs.Prelude.{Result, Ok, Err, Option, Some, None}
+use Rattle.machine.specs.declared.Step.{Step}
+use Rattle.machine.specs.declared.Step.TheVariants as step
+use Rattle.machine.specs.declared.Refusal.{Refusal}
+use Rattle.state.specs.declared.IndexRead.{IndexRead}
 use Prim.Native.Nat.{ℕ, ◌≤◌, ◌<◌}
 use mathlib.Core.Path.{◌≡◌, refl, ap, sym, subst, ◌∙◌}
 use mathlib.Core.List.{List, [], ◌∷◌, ◌++◌}
@@ -14,7 +19,7 @@ use Rattle.state.specs.declared.Levels.{Levels}
 use Rattle.state.specs.declared.Slot.{Slot}
 use Rattle.state.specs.declared.InnerBox.{InnerBox}
 use Rattle.state.specs.declared.InnerBox.TheVariants as inners
-use Rattle.state.specs.declared.LeafBoxes.TheVariants as leafBox
+use Rattle.machine.specs.declared.BoxesSo.TheVariants as inBoxes
 use Rattle.state.specs.declared.Stage.{Stage}
 use Rattle.state.specs.declared.Stage.TheVariants as stage
 use Rattle.state.specs.Flow.{Flow, Left, left}
@@ -23,19 +28,15 @@ use Rattle.state.specs.Levels.{entry_at, entry_place, inmost, depth, took_entry}
 use Rattle.state.specs.Ranges.{at_most, below, Within, opening_bounds, gap_bounds, top_bounds, level_bounds, levels_bounds, slot_bounds, inner_bounds, leaf_bounds, head_bounds, stage_bounds}
 use Rattle.state.specs.Stages.{inner_kind, lift_inner, step_slot, step_entry, step_stage}
 use Rattle.inner.specs.Views.{inner_phase, view_inner, box_bounds}
-use Rattle.inner.specs.declared.InnerStep.{InnerStep}
 use Rattle.state.specs.Calls.{flow_of}
-use Rattle.state.specs.declared.OpeningBoxes.{OpeningBoxes}
+use Rattle.state.specs.Boxed.{OpeningBoxes}
 use Rattle.state.specs.declared.GapBoxes.{GapBoxes}
-use Rattle.state.specs.declared.LeafBoxes.{LeafBoxes}
+use Rattle.state.specs.Boxed.{LeafBoxes}
 use Rattle.state.proofs.RangeTests.{within_second, three_within, four_within}
 use Rattle.levels.specs.Views.{read_of}
-use Rattle.levels.specs.declared.EntryRead.{EntryRead}
-use Rattle.levels.specs.declared.EntryRead.TheVariants as read
 use Rattle.levels.proofs.Chosen.{chosen, altered_told}
 use Rattle.next_stage.specs.declared.Running.{Running}
-use Rattle.next_stage.specs.declared.StageStep.{StageStep}
-use Rattle.next_stage.specs.Views.{flowing, view_stage}
+use Rattle.next_stage.specs.Views.{flowing, StageAnswer, view_stage}
 
 pub inner_within : (ls : Levels) (d : ℕ) (s : InnerBox) → d ≡ depth ls → Within (inner_bounds ls s) → Within (box_bounds d s)
 unfolding inner_bounds box_bounds
@@ -48,22 +49,22 @@ module _ (top : Top) (ls : Levels) (f : Flow) (n b : ℕ) where
   inner_step slot d (inners.Head h) e = ap (λ (k : ℕ). lift_inner top ls slot (step_box (inner_kind top slot k) (inner_phase (inners.Head h)) f n b)) e
   inner_step slot d (inners.Body span s) e = ap (λ (k : ℕ). lift_inner top ls slot (step_box (inner_kind top slot k) (inner_phase (inners.Body span s)) f n b)) e
 
-module _ (top : Top) (ls : Levels) (f : Flow) (n b : ℕ) (r : EntryRead) (k : r ≡ read_of (inmost ls) (entry_at f.work (entry_place ls)) f.now n) where
+module _ (top : Top) (ls : Levels) (f : Flow) (n b : ℕ) (r : Option (Bool × Slot)) (k : r ≡ read_of (inmost ls) (entry_at f.work (entry_place ls)) f.now n) where
   -- an entry that is not what its index stored
-  pub entry_altered : r ≡ read.Altered → bad (refusal 12 n) (left f) ≡ step_stage (stage.Entry top ls) f n b
+  pub entry_altered : r ≡ None → bad (refusal 12 n) (left f) ≡ step_stage (stage.Entry top ls) f n b
   unfolding step_stage step_entry shows unless lowest
   entry_altered e = rw (altered_told _ _ _ (sym k ∙ e))
 
   -- one that may be
-  pub entry_stands : (inner : Bool) (slot : Slot) (taken : Levels) → r ≡ read.Stands inner slot → taken ≡ took_entry ls →
+  pub entry_stands : (inner : Bool) (slot : Slot) (taken : Levels) → r ≡ Some (inner, slot) → taken ≡ took_entry ls →
       step_slot top taken inner slot f n b ≡ step_stage (stage.Entry top ls) f n b
   unfolding step_stage step_entry shows unless
   entry_stands inner slot taken e q = let c = chosen _ _ _ _ _ (sym k ∙ e) in rw (q, sym c.1, sym c.2, c.0)
 
-  pub entry_until : (inner : Bool) (slot : Slot) → r ≡ read.Stands inner slot → f.now ≤ slot.until
+  pub entry_until : (inner : Bool) (slot : Slot) → r ≡ Some (inner, slot) → f.now ≤ slot.until
   entry_until inner slot e = let c = chosen _ _ _ _ _ (sym k ∙ e) in omega (arith, ap (λ (s : Slot). s.until) c.2)
 
-pub leaf_first : (last : ℕ) → Within (leaf_bounds (leafBox.Head (leaf_so0 last) at.First))
+pub leaf_first : (last : ℕ) → Within (leaf_bounds (inBoxes.Head (leaf_so0 last) at.First))
 unfolding leaf_bounds head_bounds
 leaf_first last = tt
 
@@ -73,7 +74,7 @@ inner_first ls = tt
 
 -- what a byte of the first box makes of the stage
 module _ (top : Top) (ls : Levels) (slot : Slot) where
-  pub inner_law : (r : Running) (s : InnerBox) (n b d : ℕ) (work work' : List ℕ) (q : InnerStep) (p : StageStep) → d ≡ depth ls →
+  pub inner_law : (r : Running) (s : InnerBox) (n b d : ℕ) (work work' : List ℕ) (q : Result (Step InnerBox IndexRead) Refusal) (p : StageAnswer) → d ≡ depth ls →
       ((w t : List ℕ) → view_stage r.leaves w t p ≡ lift_inner top ls slot (view_inner (flowing r w t) q)) →
       ((leaves last : ℕ) (table : List ℕ) → view_inner (flow_of leaves r.now last work' table) q ≡ step_box (inner_kind top slot d) (inner_phase s) (flow_of leaves r.now last work table) n b) →
       (table : List ℕ) → view_stage r.leaves work' table p ≡ step_stage (stage.Inner top ls slot s) (flowing r work table) n b

@@ -1,4 +1,9 @@
 -- A leaf that is done has room for its record: at its last byte row 15 did not show.
+use Rattle.std.specs.Prelude.{Result, Ok, Err}
+use Rattle.machine.specs.declared.Step.{Step}
+use Rattle.machine.specs.declared.Step.TheVariants as step
+use Rattle.machine.specs.declared.Refusal.{Refusal}
+use Rattle.state.specs.declared.IndexRead.{IndexRead}
 use Prim.Native.Nat.{ℕ, suc}
 use mathlib.Core.Path.{◌≡◌, sym, subst}
 use mathlib.Core.List.{[]}
@@ -19,12 +24,10 @@ use Rattle.state.specs.declared.Seen.{Seen}
 use Rattle.state.specs.declared.Slot.{Slot}
 use Rattle.state.specs.declared.LeafSo.{LeafSo}
 use Rattle.state.specs.declared.LeafBody.{LeafBody}
-use Rattle.state.specs.declared.LeafBoxes.{LeafBoxes}
-use Rattle.state.specs.declared.LeafBoxes.TheVariants as leafBox
+use Rattle.state.specs.Boxed.{LeafBoxes}
+use Rattle.machine.specs.declared.BoxesSo.TheVariants as inBoxes
 use Rattle.records.proofs.Laws.{room_for}
-use Rattle.leaf.specs.Leaf.{view_leaf}
-use Rattle.leaf.specs.declared.LeafStep.{LeafStep}
-use Rattle.leaf.specs.declared.LeafStep.TheVariants as leaves
+use Rattle.state.specs.Views.{view}
 use Rattle.next_stage.specs.Arms.{RoomFor}
 
 abbrev Roomy : Seen → Flow → Type 0
@@ -36,7 +39,7 @@ module _ (id : ℕ) (slot : Slot) where
   list_ends so f n =
       pick_holds (λ x. Unrefused Any Roomy (go_on (leaf_boxes id slot) wrap_leaf x f)) (eqb n slot.end) _ _
       (λ e. unless_unrefused Any Roomy (leaf_lacks slot so (left f)) (left f) (done so.seen f) (λ none. shows_none (no_room f.leaves f.table) 15 slot.pos (none_first _ _ none)))
-      (λ e. unless_unrefused Any Roomy [] (left f) (go (leafBox.Head so at.First) f) (λ none. tt))
+      (λ e. unless_unrefused Any Roomy [] (left f) (go (inBoxes.Head so at.First) f) (λ none. tt))
 
   in_list : (so : LeafSo) (s : BoxPhase LeafBody) (f : Flow) (n b : ℕ) → Unrefused Any Roomy (step_boxes (leaf_boxes id slot) wrap_leaf so s f n b)
   in_list so s f n b =
@@ -46,10 +49,10 @@ module _ (id : ℕ) (slot : Slot) where
 
   in_leaf : (s : LeafBoxes) (f : Flow) (n b : ℕ) → Unrefused Any Roomy (step_leaf id slot s f n b)
   unfolding step_leaf
-  in_leaf (leafBox.Head so h) f n b = in_list so (in_head h) f n b
-  in_leaf (leafBox.Body so s) f n b = in_list so (in_body s) f n b
+  in_leaf (inBoxes.Head so h) f n b = in_list so (in_head h) f n b
+  in_leaf (inBoxes.Body so s) f n b = in_list so (in_body s) f n b
 
-  pub done_roomy : (s : LeafBoxes) (f : Flow) (n b : ℕ) (q : LeafStep) → view_leaf f q ≡ step_leaf id slot s f n b → RoomFor f.leaves q f.table
-  done_roomy s f n b (leaves.Go t) e = tt
-  done_roomy s f n b (leaves.Done seen) e = room_for f.table f.leaves (subst (Unrefused Any Roomy) (sym e) (in_leaf s f n b))
-  done_roomy s f n b (leaves.Bad x) e = tt
+  pub done_roomy : (s : LeafBoxes) (f : Flow) (n b : ℕ) (q : Result (Step LeafBoxes Seen) Refusal) → view f q ≡ step_leaf id slot s f n b → RoomFor f.leaves q f.table
+  done_roomy s f n b (Ok (step.Going t)) e = tt
+  done_roomy s f n b (Ok (step.Done seen)) e = room_for f.table f.leaves (subst (Unrefused Any Roomy) (sym e) (in_leaf s f n b))
+  done_roomy s f n b (Err x) e = tt

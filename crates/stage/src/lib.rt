@@ -11,8 +11,7 @@ ghost use Rattle.state.specs.Levels.{inmost};
 ghost use Rattle.state.specs.Stages as defs;
 ghost use Rattle.next_stage.specs.Views.{flowing, view_stage};
 
-use levels::EntryRead;
-use machine::{Head, Refusal};
+use machine::{BoxesSo, Head, Refusal};
 use next_stage::{
     Running, StageStep, gap_after, inner_after, leaf_after, opening_after, record_after,
 };
@@ -28,7 +27,7 @@ fn opening_stage(
     n: u64,
     b: u8,
     work: &mut [u8],
-) -> StageStep
+) -> Result<StageStep, Refusal>
     requires { (n < limit) × (work_bytes ≤ length work.old) × Within (opening_bounds s) }
     ensures { (table : List ℕ) →
         view_stage r.leaves work.new table result
@@ -39,7 +38,15 @@ fn opening_stage(
 }
 
 // A byte of the gap.
-fn gap_stage(top: Top, level: Level, end: u64, s: GapBoxes, r: Running, n: u64, b: u8) -> StageStep
+fn gap_stage(
+    top: Top,
+    level: Level,
+    end: u64,
+    s: GapBoxes,
+    r: Running,
+    n: u64,
+    b: u8,
+) -> Result<StageStep, Refusal>
     requires { (n < limit) × Within (gap_bounds s) }
     ensures { (work table : List ℕ) →
         view_stage r.leaves work table result ≡ defs.step_stage (stages.Gap top level end s) (flowing r work table) n b }
@@ -58,7 +65,7 @@ fn leaf_stage(
     n: u64,
     b: u8,
     table: &mut [u64],
-) -> StageStep
+) -> Result<StageStep, Refusal>
     requires { (n < limit) × (r.leaves ≤ most_records) × Within (leaf_bounds s) }
     ensures { (work : List ℕ) →
         view_stage r.leaves work table.new result
@@ -80,7 +87,7 @@ fn inner_stage(
     n: u64,
     b: u8,
     work: &mut [u8],
-) -> StageStep
+) -> Result<StageStep, Refusal>
     requires { (n < limit) × (work_bytes ≤ length work.old) × (r.now ≤ slot.until) × Within (inner_bounds ls s) }
     ensures { (table : List ℕ) →
         view_stage r.leaves work.new table result
@@ -102,7 +109,7 @@ fn slot_byte(
     b: u8,
     work: &mut [u8],
     table: &mut [u64],
-) -> StageStep
+) -> Result<StageStep, Refusal>
     requires { (n < limit) × (work_bytes ≤ length work.old) × (r.leaves ≤ most_records) × (r.now ≤ slot.until) }
     ensures { view_stage r.leaves work.new table.new result
         ≡ defs.step_slot top ls inner slot (flowing r work.old table.old) n b }
@@ -120,7 +127,7 @@ fn slot_byte(
         top,
         ls,
         slot,
-        LeafBoxes::Head(so, Head::First),
+        BoxesSo::Head(so, Head::First),
         r,
         n,
         b,
@@ -137,15 +144,14 @@ fn entry_stage(
     b: u8,
     work: &mut [u8],
     table: &mut [u64],
-) -> StageStep
+) -> Result<StageStep, Refusal>
     requires { (n < limit) × (work_bytes ≤ length work.old) × (r.leaves ≤ most_records) × Within (levels_bounds ls) × ((inmost ls).next < (inmost ls).count)
         × (r.now ≤ (inmost ls).until) }
     ensures { view_stage r.leaves work.new table.new result
         ≡ defs.step_stage (stages.Entry top ls) (flowing r work.old table.old) n b }
 {
-    let read = levels::read_back(work, ls, r.now, n);
-    let EntryRead::Stands(inner, slot) = read else {
-        return StageStep::Bad(Refusal {
+    let Some((inner, slot)) = levels::read_back(work, ls, r.now, n) else {
+        return Err(Refusal {
             number: 12,
             place: n,
         });
@@ -162,7 +168,7 @@ pub fn stage_byte(
     b: u8,
     work: &mut [u8],
     table: &mut [u64],
-) -> StageStep
+) -> Result<StageStep, Refusal>
     requires { (n < limit) × (work_bytes ≤ length work.old) × (r.leaves ≤ most_records) × Within (stage_bounds s r.now) }
     ensures { view_stage r.leaves work.new table.new result
         ≡ defs.step_stage s (flowing r work.old table.old) n b }

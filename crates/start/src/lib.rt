@@ -6,8 +6,8 @@ ghost use Rattle.basics.specs.Bytes.{number};
 ghost use Rattle.state.specs.Calls.{start_of};
 
 use fields::word_at;
-use machine::Head;
-use state::{OpeningBoxes, Stage, State};
+use machine::{BoxesSo, Head};
+use state::{Stage, State};
 
 // Start never refuses.
 pub fn start(brand: [u8; 4]) -> State
@@ -21,7 +21,7 @@ pub fn start(brand: [u8; 4]) -> State
         last: 0,
         stage: Stage::Opening {
             brand: spelled,
-            boxes: OpeningBoxes::Head(false, Head::First),
+            boxes: BoxesSo::Head(false, Head::First),
         },
     }
 }

@@ -1,6 +1,6 @@
 -- Row 6, at H: a body whose length does not fit its box gives 6 at the box's first byte, in every place where the box is known, and one
 -- that fits shows no 6. By the faults of each place, of which 6 is the lowest after those of the size (rows 4 and 5).
-use Prim.Native.Nat.{ℕ, ◌+◌, ◌%◌, ◌≤◌, ◌<◌}
+use Prim.Native.Nat.{ℕ, ◌%◌, ◌≤◌, ◌<◌}
 use mathlib.Core.Path.{◌≡◌, refl}
 use mathlib.Core.List.{List, [], ◌∷◌, ◌++◌}
 use mathlib.Core.Bool.{Bool, true, false, not, ◌&&◌, ◌||◌, or-true}

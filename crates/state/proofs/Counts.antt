@@ -1,5 +1,6 @@
 -- "An unrefused feed answers the count of all bytes read": the count before it and the length of the piece, by a count that each byte
 -- raises by one; and so, from a fresh start, the length of all that was fed.
+use Rattle.std.specs.Prelude.{ℕ, Result, Ok}
 use Prim.Native.Nat.{ℕ, suc, ◌+◌}
 use mathlib.Core.Path.{◌≡◌, refl, ap, sym, ◌∙◌}
 use mathlib.Core.List.{List, [], ◌∷◌, ◌++◌}
@@ -13,8 +14,6 @@ use Rattle.state.specs.declared.Stage.{Stage}
 use Rattle.state.specs.declared.Top.{Top}
 use Rattle.state.specs.declared.State.{State}
 use Rattle.state.specs.declared.State.TheVariants as state
-use Rattle.state.specs.declared.FeedAnswer.{FeedAnswer}
-use Rattle.state.specs.declared.FeedAnswer.TheVariants as feeds
 use Rattle.state.specs.Flow.{Flow, Left}
 use Rattle.state.specs.Stages.{step_stage}
 use Rattle.state.specs.Step.{World, reading, ended, refused, settle, past_limit, step, step_all}
@@ -39,14 +38,14 @@ unless_count [] worse w n a b = b
 unless_count (y ∷ ys) worse w n a b = a (lowest y ys)
 
 -- the count of an answer that is no refusal
-answer_count : (w : World) (n : ℕ) → answer_of w ≡ feeds.Read n → count w ≡ n
+answer_count : (w : World) (n : ℕ) → answer_of w ≡ Ok n → count w ≡ n
 unfolding answer_of count_of state_of
 answer_count (reading m s f) n e = cc
 answer_count (ended m top kept) n e = cc
 answer_count (refused m x kept) n e = let z : ◌≡◌ {A = ℕ} 0 1 = cc in absurd (omega arith)
 
 -- bytes that are read raise the count, each by one
-read_count : (w : World) (bs : List ℕ) (n : ℕ) → answer_of (step_all w bs) ≡ feeds.Read n → n ≡ count w + length bs
+read_count : (w : World) (bs : List ℕ) (n : ℕ) → answer_of (step_all w bs) ≡ Ok n → n ≡ count w + length bs
 unfolding step_all step count_of state_of answer_of
 read_count w [] n e = let c : count w ≡ n = answer_count w n e in omega arith
 read_count (reading m s f) (b ∷ bs) n e =
@@ -61,7 +60,7 @@ pub record Counted (s : State) (piece : List ℕ) (after : State) (n : ℕ) : Ty
   pub answers : n ≡ count_of s + length piece
   pub counts : count_of after ≡ n
 
-state_counts : (s : State) (piece work table : List ℕ) (n : ℕ) → (feed_state s piece work table).answer ≡ feeds.Read n → Counted s piece (feed_state s piece work table).state n
+state_counts : (s : State) (piece work table : List ℕ) (n : ℕ) → (feed_state s piece work table).answer ≡ Ok n → Counted s piece (feed_state s piece work table).state n
 unfolding feed_state count_of state_of
 state_counts (state.Reading m leaves now last s) piece work table n e =
     let w : World = reading m s (flow_of leaves now last work table) in
@@ -73,9 +72,9 @@ state_counts (state.Refused m leaves x) piece work table n e = let z : ◌≡◌
 state_counts (state.Accepted m leaves top) piece work table n e = let z : ◌≡◌ {A = ℕ} 0 1 = cc in absurd (omega arith)
 
 -- Of any feed.
-pub feed_counts : (s : State) (piece work table : List ℕ) (n : ℕ) → (feed_of s piece work table).answer ≡ feeds.Read n → Counted s piece (feed_of s piece work table).state n
+pub feed_counts : (s : State) (piece work table : List ℕ) (n : ℕ) → (feed_of s piece work table).answer ≡ Ok n → Counted s piece (feed_of s piece work table).state n
 feed_counts s piece work table n e =
-    feed_cases s piece work table (λ o. o.answer ≡ feeds.Read n → Counted s piece o.state n)
+    feed_cases s piece work table (λ o. o.answer ≡ Ok n → Counted s piece o.state n)
     (λ p. let z : ◌≡◌ {A = ℕ} 0 1 = cc in absurd (omega arith))
     (λ p. let z : ◌≡◌ {A = ℕ} 0 1 = cc in absurd (omega arith))
     (λ ge t p. state_counts s piece work table n p)
@@ -83,9 +82,9 @@ feed_counts s piece work table n e =
 
 -- From a fresh start: the length of all that was fed, the last part with those before it.
 pub parts_count : (brand : ℕ) (parts : List (List ℕ)) (part work table : List ℕ) (n : ℕ) → AllBytes (joined parts) →
-    (feed_held (feed_all (held (start_of brand) work table) parts) part).answer ≡ feeds.Read n → n ≡ length (joined parts) + length part
+    (feed_held (feed_all (held (start_of brand) work table) parts) part).answer ≡ Ok n → n ≡ length (joined parts) + length part
 unfolding count_of
 parts_count brand parts part work table n bytes e =
     let same = cutting_then parts part (held (start_of brand) work table) bytes in
-    let c = feed_counts (start_of brand) (joined parts ++ part) work table n (sym (ap (λ (o : Out FeedAnswer). o.answer) same) ∙ e) in
+    let c = feed_counts (start_of brand) (joined parts ++ part) work table n (sym (ap (λ (o : Out (Result ℕ Refusal)). o.answer) same) ∙ e) in
     omega (arith, c.answers, length-append (joined parts) part)

@@ -1,4 +1,5 @@
 -- Cutting changes nothing: bytes fed in parts, with the buffers handed back, leave what the same bytes leave in one part.
+use Rattle.std.specs.Prelude.{ℕ, Result, Err}
 use Prim.Native.Nat.{ℕ, ◌≤◌, ◌<◌}
 use mathlib.Core.Path.{◌≡◌, refl, ap, sym, ◌∙◌}
 use mathlib.Core.List.{List, [], ◌∷◌, ◌++◌}
@@ -16,8 +17,6 @@ use Rattle.machine.specs.Faults.{refusal}
 use Rattle.machine.specs.declared.Refusal.{Refusal}
 use Rattle.state.specs.declared.State.{State}
 use Rattle.state.specs.declared.State.TheVariants as state
-use Rattle.state.specs.declared.FeedAnswer.{FeedAnswer}
-use Rattle.state.specs.declared.FeedAnswer.TheVariants as feeds
 use Rattle.state.specs.Flow.{Left, work_bytes}
 use Rattle.state.specs.Step.{World, reading, ended, refused, step, step_all}
 use Rattle.state.specs.Ranges.{in_range}
@@ -72,7 +71,7 @@ fed_again (refused n x kept) piece = rw (run_refused piece n x kept)
 -- Feed.
 
 -- the same where 1 and 2 are not looked at
-abbrev pub state_next : Out FeedAnswer → List ℕ → Out FeedAnswer
+abbrev pub state_next : Out (Result ℕ Refusal) → List ℕ → Out (Result ℕ Refusal)
 state_next o piece = feed_state o.state piece o.work o.table
 
 -- the bytes of a feed, one part after the other
@@ -94,11 +93,11 @@ state_none (state.Refused n leaves x) work table = (refl, refl, refl)
 state_none (state.Accepted n leaves top) work table = (refl, refl, refl)
 
 -- "Feed checks 1, 2": what it gives in each case.
-pub feed_short : (s : State) (piece work table : List ℕ) → length work < work_bytes → feed_of s piece work table ≡ out (feeds.Refused (refusal 1 0)) s work table
+pub feed_short : (s : State) (piece work table : List ℕ) → length work < work_bytes → feed_of s piece work table ≡ out (Err (refusal 1 0)) s work table
 unfolding feed_of
 feed_short s piece work table h = pick_yes (ltb (length work) work_bytes) _ _ (lt-ltb (length work) work_bytes h)
 
-pub feed_outside : (s : State) (piece work table : List ℕ) → work_bytes ≤ length work → in_range s ≡ false → feed_of s piece work table ≡ out (feeds.Refused (refusal 2 0)) s work table
+pub feed_outside : (s : State) (piece work table : List ℕ) → work_bytes ≤ length work → in_range s ≡ false → feed_of s piece work table ≡ out (Err (refusal 2 0)) s work table
 unfolding feed_of
 feed_outside s piece work table h e = pick_no (ltb (length work) work_bytes) _ _ (le-ltb (length work) work_bytes h) ∙ pick_no (in_range s) _ _ e
 
@@ -129,7 +128,7 @@ feed_join s xs ys work table bytes = at (lt_or_ge (length work) work_bytes) (tes
     at (inl lt) t = feed_short s (xs ++ ys) work table lt ∙ rw (feed_short s xs work table lt) (sym (feed_short s ys work table lt))
     at (inr ge) (inr e) = feed_outside s (xs ++ ys) work table ge e ∙ rw (feed_outside s xs work table ge e) (sym (feed_outside s ys work table ge e))
     at (inr ge) (inl e) =
-        let o : Out FeedAnswer = feed_of s xs work table in
+        let o : Out (Result ℕ Refusal) = feed_of s xs work table in
         let long : length o.work ≡ length work = feed_work_length s xs work table in
         let kept : in_range o.state ≡ true = (in_range_lem o.state).1 (feed_in_range s xs work table bytes ((in_range_lem s).0 e)) in
         feed_inside s (xs ++ ys) work table ge e

@@ -1,4 +1,5 @@
 -- Nothing changes but what is lent for it: a byte changes at most its own place of the work area, and at most one record of the leaf table.
+use Rattle.std.specs.Prelude.{ℕ, Result, Err}
 use Prim.Native.Nat.{ℕ, zero, suc, ◌+◌, ◌*◌, ◌≤◌}
 use mathlib.Core.Path.{◌≡◌, refl, ap, sym, ◌∙◌}
 use mathlib.Core.List.{List, [], ◌∷◌}
@@ -35,16 +36,14 @@ use Rattle.state.specs.declared.TrafPart.{TrafPart}
 use Rattle.state.specs.declared.TrafPart.TheVariants as trafPart
 use Rattle.state.specs.declared.TrafBody.{TrafBody}
 use Rattle.state.specs.declared.TrafBody.TheVariants as trafs
-use Rattle.state.specs.declared.TrafBoxes.{TrafBoxes}
-use Rattle.state.specs.declared.TrafBoxes.TheVariants as trafBoxed
+use Rattle.state.specs.Boxed.{TrafBoxes}
+use Rattle.machine.specs.declared.BoxesSo.TheVariants as inBoxes
 use Rattle.state.specs.declared.MoofBody.{MoofBody}
 use Rattle.state.specs.declared.MoofBody.TheVariants as moofs
-use Rattle.state.specs.declared.MoofBoxes.{MoofBoxes}
-use Rattle.state.specs.declared.MoofBoxes.TheVariants as moofBoxed
+use Rattle.state.specs.Boxed.{MoofBoxes}
 use Rattle.state.specs.declared.LeafBody.{LeafBody}
 use Rattle.state.specs.declared.LeafBody.TheVariants as leafs
-use Rattle.state.specs.declared.LeafBoxes.{LeafBoxes}
-use Rattle.state.specs.declared.LeafBoxes.TheVariants as leafBoxed
+use Rattle.state.specs.Boxed.{LeafBoxes}
 use Rattle.state.specs.declared.Sidx.{Sidx}
 use Rattle.state.specs.declared.IndexPart.{IndexPart}
 use Rattle.state.specs.declared.IndexPart.TheVariants as part
@@ -55,8 +54,7 @@ use Rattle.state.specs.declared.StypPart.{StypPart}
 use Rattle.state.specs.declared.StypPart.TheVariants as styps
 use Rattle.state.specs.declared.OpeningBody.{OpeningBody}
 use Rattle.state.specs.declared.OpeningBody.TheVariants as openings
-use Rattle.state.specs.declared.OpeningBoxes.{OpeningBoxes}
-use Rattle.state.specs.declared.OpeningBoxes.TheVariants as openingBoxed
+use Rattle.state.specs.Boxed.{OpeningBoxes}
 use Rattle.state.specs.declared.GapBoxes.{GapBoxes}
 use Rattle.state.specs.declared.GapBoxes.TheVariants as gaps
 use Rattle.state.specs.declared.Level.{Level}
@@ -67,8 +65,6 @@ use Rattle.state.specs.declared.Stage.{Stage}
 use Rattle.state.specs.declared.Stage.TheVariants as stage
 use Rattle.state.specs.declared.State.{State}
 use Rattle.state.specs.declared.State.TheVariants as state
-use Rattle.state.specs.declared.FeedAnswer.{FeedAnswer}
-use Rattle.state.specs.declared.FeedAnswer.TheVariants as feeds
 use Rattle.state.specs.Ranges.{in_range}
 use Rattle.state.specs.Flow.{Flow, Left, left, with_now, listed, work_bytes}
 use Rattle.state.specs.Rows.{is}
@@ -122,9 +118,9 @@ traf_body_left id t (trafs.Field p (suc m) acc) f n b = refl
 
 traf_left : (id : ℕ) (span : Span) (s : TrafBoxes) (f : Flow) (n b : ℕ) → left_in left (step_traf id span s f n b) ≡ left f
 unfolding step_traf
-traf_left id span (trafBoxed.Head so h) f n b =
+traf_left id span (inBoxes.Head so h) f n b =
     boxes_left (traf_boxes id span) wrap_traf so (in_head h) f n b ∙ header_left (traf_kind id span.end so) traf_begin_left h f n b
-traf_left id span (trafBoxed.Body so s) f n b =
+traf_left id span (inBoxes.Body so s) f n b =
     boxes_left (traf_boxes id span) wrap_traf so (in_body s) f n b ∙ body_left (traf_kind id span.end so) s f n b ∙ traf_body_left id so.track s f n b
 
 moof_begin_left : (id : ℕ) (seen : Seen) (h : Header) (f : Flow) (n : ℕ) → left_in left (begin_moof id seen h f n) ≡ left f
@@ -141,9 +137,9 @@ moof_body_left id (moofs.Traf span s) f n b = pass_left left (moofs.Traf span) s
 
 moof_left : (id end : ℕ) (s : MoofBoxes) (f : Flow) (n b : ℕ) → left_in left (step_moof id end s f n b) ≡ left f
 unfolding step_moof
-moof_left id end (moofBoxed.Head seen h) f n b =
+moof_left id end (inBoxes.Head seen h) f n b =
     boxes_left (moof_boxes id end) wrap_moof seen (in_head h) f n b ∙ header_left (moof_kind id end seen) (moof_begin_left id seen) h f n b
-moof_left id end (moofBoxed.Body seen s) f n b =
+moof_left id end (inBoxes.Body seen s) f n b =
     boxes_left (moof_boxes id end) wrap_moof seen (in_body s) f n b ∙ body_left (moof_kind id end seen) s f n b ∙ moof_body_left id s f n b
 
 leaf_begin_left : (id : ℕ) (seen : Seen) (h : Header) (f : Flow) (n : ℕ) → left_in left (begin_leaf id seen h f n) ≡ left f
@@ -160,9 +156,9 @@ leaf_body_left id (leafs.Moof end s) f n b = pass_left left (leafs.Moof end) see
 
 pub leaf_left : (id : ℕ) (slot : Slot) (s : LeafBoxes) (f : Flow) (n b : ℕ) → left_in left (step_leaf id slot s f n b) ≡ left f
 unfolding step_leaf
-leaf_left id slot (leafBoxed.Head so h) f n b =
+leaf_left id slot (inBoxes.Head so h) f n b =
     boxes_left (leaf_boxes id slot) wrap_leaf so (in_head h) f n b ∙ header_left (leaf_kind id slot so) (leaf_begin_left id so.seen) h f n b
-leaf_left id slot (leafBoxed.Body so s) f n b =
+leaf_left id slot (inBoxes.Body so s) f n b =
     boxes_left (leaf_boxes id slot) wrap_leaf so (in_body s) f n b ∙ body_left (leaf_kind id slot so) s f n b ∙ leaf_body_left id s f n b
 
 -- In an index only a byte of an entry is stored.
@@ -226,9 +222,9 @@ opening_body_left brand (openings.Index span s) f n b = pass_left left (openings
 
 opening_left : (brand : ℕ) (s : OpeningBoxes) (f : Flow) (n b : ℕ) → left_in left (step_opening brand s f n b) ≡ storing f (opening_byte s) b
 unfolding step_opening opening_byte stored_at
-opening_left brand (openingBoxed.Head branded h) f n b =
+opening_left brand (inBoxes.Head branded h) f n b =
     boxes_left (opening brand) wrap_opening branded (in_head h) f n b ∙ header_left (opening_kind brand branded) opening_begin_left h f n b
-opening_left brand (openingBoxed.Body branded s) f n b =
+opening_left brand (inBoxes.Body branded s) f n b =
     boxes_left (opening brand) wrap_opening branded (in_body s) f n b ∙ body_left (opening_kind brand branded) s f n b ∙ opening_body_left brand s f n b
 
 -- In the gap.
@@ -345,7 +341,7 @@ leaf_frames top ls slot s f n b = listing_frames top ls slot f b (step_leaf top.
 slot_frames : (top : Top) (ls : Levels) (inner : Bool) (slot : Slot) (f : Flow) (n b : ℕ) → Frames f none b (step_slot top ls inner slot f n b)
 unfolding step_slot
 slot_frames top ls true slot f n b = frames_none f b _ (inner_head_left top ls slot at.First f n b)
-slot_frames top ls false slot f n b = leaf_frames top ls slot (leafBoxed.Head (leaf_so0 f.last) at.First) f n b
+slot_frames top ls false slot f n b = leaf_frames top ls slot (inBoxes.Head (leaf_so0 f.last) at.First) f n b
 
 frames_unless : (xs : List Refusal) (f : Flow) (b : ℕ) (r : Sub Stage Top Flow Left) → Frames f none b r → Frames f none b (unless xs (λ x. bad x (left f)) r)
 unfolding unless left_in
@@ -496,12 +492,12 @@ leaves_of_lem (ended n top kept) = refl
 leaves_of_lem (refused n x kept) = refl
 
 -- what a feed leaves, stated of a state's reading and of the buffers
-record Framing (s : State) (piece work table : List ℕ) (o : Out FeedAnswer) : Type 0 where
+record Framing (s : State) (piece work table : List ℕ) (o : Out (Result ℕ Refusal)) : Type 0 where
   work_long : length o.work ≡ length work
   spared : (i : ℕ) → ((w : World) → world_of s work table ≡ some w → Spared w piece i) → get_or o.work i 0 ≡ get_or work i 0
   grown : Grown (leaves_held s) table (leaves_held o.state) o.table
 
-framing_same : (s : State) (piece work table : List ℕ) (a : FeedAnswer) → Framing s piece work table (out a s work table)
+framing_same : (s : State) (piece work table : List ℕ) (a : Result ℕ Refusal) → Framing s piece work table (out a s work table)
 framing_same s piece work table a = record { work_long = refl; spared = λ i h. refl; grown = grown_same (leaves_held s) table }
 
 framing_run : (s : State) (piece work table : List ℕ) (w : World) → world_of s work table ≡ some w → work_of w ≡ work → table_of w ≡ table → leaves_of w ≡ leaves_held s →
@@ -519,10 +515,10 @@ state_framing (state.Reading n leaves now last s) piece work table =
     framing_run (state.Reading n leaves now last s) piece work table (reading n s (flow_of leaves now last work table)) refl refl refl refl
 state_framing (state.Ended n leaves top) piece work table =
     framing_run (state.Ended n leaves top) piece work table (ended n top (left_of leaves work table)) refl refl refl refl
-state_framing (state.Refused n leaves x) piece work table = framing_same (state.Refused n leaves x) piece work table (feeds.Refused x)
-state_framing (state.Accepted n leaves top) piece work table = framing_same (state.Accepted n leaves top) piece work table (feeds.Refused (refusal 22 0))
+state_framing (state.Refused n leaves x) piece work table = framing_same (state.Refused n leaves x) piece work table (Err x)
+state_framing (state.Accepted n leaves top) piece work table = framing_same (state.Accepted n leaves top) piece work table (Err (refusal 22 0))
 
-pick_framing : (s : State) (piece work table : List ℕ) (t : Bool) (o p : Out FeedAnswer) → Framing s piece work table o → Framing s piece work table p → Framing s piece work table (pick t o p)
+pick_framing : (s : State) (piece work table : List ℕ) (t : Bool) (o p : Out (Result ℕ Refusal)) → Framing s piece work table o → Framing s piece work table p → Framing s piece work table (pick t o p)
 unfolding pick
 pick_framing s piece work table true o p f g = f
 pick_framing s piece work table false o p f g = g
@@ -530,8 +526,8 @@ pick_framing s piece work table false o p f g = g
 feed_framing : (s : State) (piece work table : List ℕ) → Framing s piece work table (feed_of s piece work table)
 unfolding feed_of
 feed_framing s piece work table =
-    pick_framing s piece work table (ltb (length work) work_bytes) _ _ (framing_same s piece work table (feeds.Refused (refusal 1 0)))
-    (pick_framing s piece work table (in_range s) _ _ (state_framing s piece work table) (framing_same s piece work table (feeds.Refused (refusal 2 0))))
+    pick_framing s piece work table (ltb (length work) work_bytes) _ _ (framing_same s piece work table (Err (refusal 1 0)))
+    (pick_framing s piece work table (in_range s) _ _ (state_framing s piece work table) (framing_same s piece work table (Err (refusal 2 0))))
 
 -- a feed leaves both buffers as long as they were
 pub feed_work_length : (s : State) (piece work table : List ℕ) → length (feed_of s piece work table).work ≡ length work

@@ -16,17 +16,14 @@ use Rattle.machine.specs.Lists.{BoxPhase, in_body, step_box, Boxes, step_boxes}
 use Rattle.state.specs.declared.Span.{Span}
 use Rattle.state.specs.declared.Slot.{Slot}
 use Rattle.state.specs.declared.TrafBody.TheVariants as trafs
-use Rattle.state.specs.declared.TrafBoxes.{TrafBoxes}
-use Rattle.state.specs.declared.TrafBoxes.TheVariants as trafBox
+use Rattle.state.specs.Boxed.{TrafBoxes}
+use Rattle.machine.specs.declared.BoxesSo.TheVariants as inBoxes
 use Rattle.state.specs.declared.MoofBody.TheVariants as moofs
-use Rattle.state.specs.declared.MoofBoxes.{MoofBoxes}
-use Rattle.state.specs.declared.MoofBoxes.TheVariants as moofBox
+use Rattle.state.specs.Boxed.{MoofBoxes}
 use Rattle.state.specs.declared.LeafBody.TheVariants as leaves
-use Rattle.state.specs.declared.LeafBoxes.{LeafBoxes}
-use Rattle.state.specs.declared.LeafBoxes.TheVariants as leafBox
+use Rattle.state.specs.Boxed.{LeafBoxes}
 use Rattle.state.specs.declared.OpeningBody.TheVariants as openings
-use Rattle.state.specs.declared.OpeningBoxes.{OpeningBoxes}
-use Rattle.state.specs.declared.OpeningBoxes.TheVariants as openingBox
+use Rattle.state.specs.Boxed.{OpeningBoxes}
 use Rattle.state.specs.declared.GapBoxes.{GapBoxes}
 use Rattle.state.specs.declared.GapBoxes.TheVariants as gaps
 use Rattle.state.specs.declared.Stage.{Stage}
@@ -52,30 +49,30 @@ module _ {A B R Q S : Type 0} (l : Boxes A B R Q Flow Left) (wrap : A → BoxPha
 
 traf_stays : (id : ℕ) (span : Span) (s : TrafBoxes) (f : Flow) (n b : ℕ) → suc n < traf_skips s → step_traf id span s f n b ≡ go s f
 unfolding step_traf step_traf_body traf_skips traf_body_skips
-traf_stays id span (trafBox.Head so x) f n b h = absurd (omega arith)
-traf_stays id span (trafBox.Body so (trafs.Skip stop)) f n b h = body_moves (traf_boxes id span) wrap_traf so _ _ f f n b (skip_stays nothing (trafs.Skip stop) stop n f h)
-traf_stays id span (trafBox.Body so (trafs.Rest stop r)) f n b h = body_moves (traf_boxes id span) wrap_traf so _ _ f f n b (skip_stays (headed r) (trafs.Rest stop r) stop n f h)
-traf_stays id span (trafBox.Body so (trafs.Field p more acc)) f n b h = absurd (omega arith)
+traf_stays id span (inBoxes.Head so x) f n b h = absurd (omega arith)
+traf_stays id span (inBoxes.Body so (trafs.Skip stop)) f n b h = body_moves (traf_boxes id span) wrap_traf so _ _ f f n b (skip_stays nothing (trafs.Skip stop) stop n f h)
+traf_stays id span (inBoxes.Body so (trafs.Rest stop r)) f n b h = body_moves (traf_boxes id span) wrap_traf so _ _ f f n b (skip_stays (headed r) (trafs.Rest stop r) stop n f h)
+traf_stays id span (inBoxes.Body so (trafs.Field p more acc)) f n b h = absurd (omega arith)
 
 moof_stays : (id end : ℕ) (s : MoofBoxes) (f : Flow) (n b : ℕ) → suc n < moof_skips s → step_moof id end s f n b ≡ go s f
 unfolding step_moof step_moof_body moof_skips moof_body_skips lift
-moof_stays id end (moofBox.Head seen x) f n b h = absurd (omega arith)
-moof_stays id end (moofBox.Body seen (moofs.Skip stop)) f n b h = body_moves (moof_boxes id end) wrap_moof seen _ _ f f n b (skip_stays skipped (moofs.Skip stop) stop n f h)
-moof_stays id end (moofBox.Body seen (moofs.Traf span s)) f n b h = body_moves (moof_boxes id end) wrap_moof seen _ (moofs.Traf span s) f f n b (rw (traf_stays id span s f n b h))
+moof_stays id end (inBoxes.Head seen x) f n b h = absurd (omega arith)
+moof_stays id end (inBoxes.Body seen (moofs.Skip stop)) f n b h = body_moves (moof_boxes id end) wrap_moof seen _ _ f f n b (skip_stays skipped (moofs.Skip stop) stop n f h)
+moof_stays id end (inBoxes.Body seen (moofs.Traf span s)) f n b h = body_moves (moof_boxes id end) wrap_moof seen _ (moofs.Traf span s) f f n b (rw (traf_stays id span s f n b h))
 
 pub leaf_stays : (id : ℕ) (slot : Slot) (s : LeafBoxes) (f : Flow) (n b : ℕ) → suc n < leaf_skips s → step_leaf id slot s f n b ≡ go s f
 unfolding step_leaf step_leaf_body leaf_skips leaf_body_skips lift
-leaf_stays id slot (leafBox.Head so x) f n b h = absurd (omega arith)
-leaf_stays id slot (leafBox.Body so (leaves.Skip stop)) f n b h = body_moves (leaf_boxes id slot) wrap_leaf so _ _ f f n b (skip_stays skipped (leaves.Skip stop) stop n f h)
-leaf_stays id slot (leafBox.Body so (leaves.Moof end s)) f n b h = body_moves (leaf_boxes id slot) wrap_leaf so _ (leaves.Moof end s) f f n b (rw (moof_stays id end s f n b h))
+leaf_stays id slot (inBoxes.Head so x) f n b h = absurd (omega arith)
+leaf_stays id slot (inBoxes.Body so (leaves.Skip stop)) f n b h = body_moves (leaf_boxes id slot) wrap_leaf so _ _ f f n b (skip_stays skipped (leaves.Skip stop) stop n f h)
+leaf_stays id slot (inBoxes.Body so (leaves.Moof end s)) f n b h = body_moves (leaf_boxes id slot) wrap_leaf so _ (leaves.Moof end s) f f n b (rw (moof_stays id end s f n b h))
 
 opening_stays : (brand : ℕ) (s : OpeningBoxes) (f : Flow) (n b : ℕ) → suc n < opening_skips s → step_opening brand s f n b ≡ go s f
 unfolding step_opening step_opening_body opening_skips opening_body_skips
-opening_stays brand (openingBox.Head branded x) f n b h = absurd (omega arith)
-opening_stays brand (openingBox.Body branded (openings.Skip stop)) f n b h =
+opening_stays brand (inBoxes.Head branded x) f n b h = absurd (omega arith)
+opening_stays brand (inBoxes.Body branded (openings.Skip stop)) f n b h =
     body_moves (opening brand) wrap_opening branded _ _ f f n b (skip_stays passed (openings.Skip stop) stop n f h)
-opening_stays brand (openingBox.Body branded (openings.Styp span p found more acc)) f n b h = absurd (omega arith)
-opening_stays brand (openingBox.Body branded (openings.Index span s)) f n b h = absurd (omega arith)
+opening_stays brand (inBoxes.Body branded (openings.Styp span p found more acc)) f n b h = absurd (omega arith)
+opening_stays brand (inBoxes.Body branded (openings.Index span s)) f n b h = absurd (omega arith)
 
 gap_stays : (end : ℕ) (s : GapBoxes) (f : Flow) (n b : ℕ) → suc n < gap_skips s → step_gap end s f n b ≡ go s f
 unfolding step_gap gap_skips

@@ -1,3 +1,4 @@
+pub mod Views
 pub mod RangeTests
 pub mod RangeKept
 pub mod RangeLeaf

@@ -1,5 +1,6 @@
 -- Row 2 is "never given for a state that start, feed or finish returned, save one from outside the ranges handed back unchanged": by the
 -- ranges that the three calls keep, and since 2 is given outside the ranges only.
+use Rattle.std.specs.Prelude.{Err}
 use Prim.Native.Nat.{ℕ, ◌≤◌, ◌<◌}
 use mathlib.Core.Path.{◌≡◌, ap}
 use mathlib.Core.List.{List}
@@ -14,14 +15,12 @@ use Rattle.machine.specs.Faults.{refusal}
 use Rattle.machine.specs.declared.Refusal.{Refusal}
 use Rattle.state.specs.declared.State.{State}
 use Rattle.state.specs.declared.State.TheVariants as state
-use Rattle.state.specs.declared.FeedAnswer.TheVariants as feeds
-use Rattle.state.specs.declared.FinishAnswer.TheVariants as finishes
 use Rattle.state.specs.Ranges.{in_range, InRange}
 use Rattle.state.specs.Calls.{out, start_of, feed_state, feed_of, finish_state, finish_of}
 use Rattle.state.proofs.RangeTests.{in_range_lem}
 use Rattle.state.proofs.Ranges.{start_in_range, feed_state_kept, feed_in_range, finish_in_range, feed_outside, finish_outside}
 use Rattle.state.proofs.Cuts.{tested, feed_short, feed_inside}
-use Rattle.state.proofs.Kept.{After, refused_feed, numbers, feed_number, finish_number, finish_inside}
+use Rattle.state.proofs.Kept.{After, refused_feed, numbers, refused_number, finish_inside}
 
 -- A state that start, feed or finish returned: of any brand, from any state, with any piece of bytes and any buffers.
 pub data Returned : State → Type 0 where
@@ -46,35 +45,35 @@ returned (by_finish given) =
     (λ outside. inr (outside, finish_outside given outside)) (tested (in_range given))
 
 -- Inside the ranges neither feed nor finish gives 2.
-pub feed_not_two : (s : State) (piece work table : List ℕ) (x : Refusal) → AllBytes piece → InRange s → (feed_of s piece work table).answer ≡ feeds.Refused x → x.number ≢ 2
+pub feed_not_two : (s : State) (piece work table : List ℕ) (x : Refusal) → AllBytes piece → InRange s → (feed_of s piece work table).answer ≡ Err x → x.number ≢ 2
 feed_not_two s piece work table x bytes inside e two = at (lt_or_ge (length work) work_bytes)
   where
     kept : InRange (feed_state s piece work table).state
     kept = feed_state_kept s piece work table bytes inside
 
-    told : After (feed_state s piece work table).state x ⊎ ((x ≡ refusal 22 0) × (feed_state s piece work table ≡ out (feeds.Refused x) s work table)) → ⊥
+    told : After (feed_state s piece work table).state x ⊎ ((x ≡ refusal 22 0) × (feed_state s piece work table ≡ out (Err x) s work table)) → ⊥
     told (inl a) = let n = numbers a.count a.leaves x (rw a.is at kept) in omega arith
     told (inr z) = let n : x.number ≡ 22 = ap (λ (y : Refusal). y.number) z.0 in omega arith
 
     at : (length work < work_bytes) ⊎ (work_bytes ≤ length work) → ⊥
-    at (inl short) = let n : x.number ≡ 1 = feed_number (refusal 1 0) x (rw (feed_short s piece work table short) at e) in omega arith
+    at (inl short) = let n : x.number ≡ 1 = refused_number (refusal 1 0) x (rw (feed_short s piece work table short) at e) in omega arith
     at (inr long) = told (refused_feed s piece work table x (rw (feed_inside s piece work table long ((in_range_lem s).1 inside)) at e))
 
 -- what finish answers in each phase inside the ranges
-finishing_not_two : (s : State) (x : Refusal) → InRange s → (finish_state s).answer ≡ finishes.Refused x → x.number ≢ 2
+finishing_not_two : (s : State) (x : Refusal) → InRange s → (finish_state s).answer ≡ Err x → x.number ≢ 2
 unfolding finish_state
-finishing_not_two (state.Reading n leaves now last s) x inside e two = let other : x.number ≡ 20 = finish_number (refusal 20 n) x e in omega arith
+finishing_not_two (state.Reading n leaves now last s) x inside e two = let other : x.number ≡ 20 = refused_number (refusal 20 n) x e in omega arith
 finishing_not_two (state.Ended n leaves top) x inside e two = let z : ◌≡◌ {A = ℕ} 0 1 = cc in omega arith
-finishing_not_two (state.Refused n leaves y) x inside e two = let kept = numbers n leaves y inside in let same = finish_number y x e in omega arith
-finishing_not_two (state.Accepted n leaves top) x inside e two = let other : x.number ≡ 22 = finish_number (refusal 22 0) x e in omega arith
+finishing_not_two (state.Refused n leaves y) x inside e two = let kept = numbers n leaves y inside in let same = refused_number y x e in omega arith
+finishing_not_two (state.Accepted n leaves top) x inside e two = let other : x.number ≡ 22 = refused_number (refusal 22 0) x e in omega arith
 
-pub finish_not_two : (s : State) (x : Refusal) → InRange s → (finish_of s).answer ≡ finishes.Refused x → x.number ≢ 2
+pub finish_not_two : (s : State) (x : Refusal) → InRange s → (finish_of s).answer ≡ Err x → x.number ≢ 2
 finish_not_two s x inside e = finishing_not_two s x inside (rw (finish_inside s ((in_range_lem s).1 inside)) at e)
 
 -- A call gives 2 for a state: a feed of bytes with any buffers, or finish.
 pub data GivesTwo (s : State) : Type 0 where
-  a_feed : (piece work table : List ℕ) (x : Refusal) → AllBytes piece → (feed_of s piece work table).answer ≡ feeds.Refused x → x.number ≡ 2 → GivesTwo s
-  a_finish : (x : Refusal) → (finish_of s).answer ≡ finishes.Refused x → x.number ≡ 2 → GivesTwo s
+  a_feed : (piece work table : List ℕ) (x : Refusal) → AllBytes piece → (feed_of s piece work table).answer ≡ Err x → x.number ≡ 2 → GivesTwo s
+  a_finish : (x : Refusal) → (finish_of s).answer ≡ Err x → x.number ≡ 2 → GivesTwo s
 
 pub not_inside : {s : State} → InRange s → GivesTwo s → ⊥
 not_inside {s} inside (a_feed piece work table x bytes e two) = feed_not_two s piece work table x bytes inside e two

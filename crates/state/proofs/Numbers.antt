@@ -21,20 +21,17 @@ use Rattle.state.specs.declared.Sidx.{Sidx}
 use Rattle.state.specs.declared.Sidx.TheVariants as sidx
 use Rattle.state.specs.declared.TrafBody.{TrafBody}
 use Rattle.state.specs.declared.TrafBody.TheVariants as trafs
-use Rattle.state.specs.declared.TrafBoxes.{TrafBoxes}
-use Rattle.state.specs.declared.TrafBoxes.TheVariants as trafBox
+use Rattle.state.specs.Boxed.{TrafBoxes}
+use Rattle.machine.specs.declared.BoxesSo.TheVariants as inBoxes
 use Rattle.state.specs.declared.MoofBody.{MoofBody}
 use Rattle.state.specs.declared.MoofBody.TheVariants as moofs
-use Rattle.state.specs.declared.MoofBoxes.{MoofBoxes}
-use Rattle.state.specs.declared.MoofBoxes.TheVariants as moofBox
+use Rattle.state.specs.Boxed.{MoofBoxes}
 use Rattle.state.specs.declared.LeafBody.{LeafBody}
 use Rattle.state.specs.declared.LeafBody.TheVariants as leaves
-use Rattle.state.specs.declared.LeafBoxes.{LeafBoxes}
-use Rattle.state.specs.declared.LeafBoxes.TheVariants as leafBox
+use Rattle.state.specs.Boxed.{LeafBoxes}
 use Rattle.state.specs.declared.OpeningBody.{OpeningBody}
 use Rattle.state.specs.declared.OpeningBody.TheVariants as openings
-use Rattle.state.specs.declared.OpeningBoxes.{OpeningBoxes}
-use Rattle.state.specs.declared.OpeningBoxes.TheVariants as openingBox
+use Rattle.state.specs.Boxed.{OpeningBoxes}
 use Rattle.state.specs.declared.GapBoxes.{GapBoxes}
 use Rattle.state.specs.declared.GapBoxes.TheVariants as gaps
 use Rattle.state.specs.declared.InnerBox.TheVariants as inners
@@ -106,8 +103,8 @@ traf_body_spells id t (trafs.Field p more acc) = record { same = refl; on = λ g
 
 traf_spells : (id : ℕ) (span : Span) (s : TrafBoxes) → Spells (step_traf id span) (traf_number s) s
 unfolding traf_number step_traf
-traf_spells id span (trafBox.Head so h) = inside_spells _ (step_traf id span) (trafBox.Head so) (head_moves (traf_boxes id span) wrap_traf so) _ h (head_spells span.end h)
-traf_spells id span (trafBox.Body so s) = inside_spells _ (step_traf id span) (trafBox.Body so) (body_moves (traf_boxes id span) wrap_traf so) _ s (traf_body_spells id so.track s)
+traf_spells id span (inBoxes.Head so h) = inside_spells _ (step_traf id span) (inBoxes.Head so) (head_moves (traf_boxes id span) wrap_traf so) _ h (head_spells span.end h)
+traf_spells id span (inBoxes.Body so s) = inside_spells _ (step_traf id span) (inBoxes.Body so) (body_moves (traf_boxes id span) wrap_traf so) _ s (traf_body_spells id so.track s)
 
 moof_body_spells : (id : ℕ) (s : MoofBody) → Spells (step_moof_body id) (moof_body_number s) s
 unfolding moof_body_number step_moof_body lift
@@ -116,8 +113,8 @@ moof_body_spells id (moofs.Traf span s) = inside_spells (step_traf id span) (ste
 
 moof_spells : (id end : ℕ) (s : MoofBoxes) → Spells (step_moof id end) (moof_number s) s
 unfolding moof_number step_moof
-moof_spells id end (moofBox.Head seen h) = inside_spells _ (step_moof id end) (moofBox.Head seen) (head_moves (moof_boxes id end) wrap_moof seen) _ h (head_spells end h)
-moof_spells id end (moofBox.Body seen s) = inside_spells _ (step_moof id end) (moofBox.Body seen) (body_moves (moof_boxes id end) wrap_moof seen) _ s (moof_body_spells id s)
+moof_spells id end (inBoxes.Head seen h) = inside_spells _ (step_moof id end) (inBoxes.Head seen) (head_moves (moof_boxes id end) wrap_moof seen) _ h (head_spells end h)
+moof_spells id end (inBoxes.Body seen s) = inside_spells _ (step_moof id end) (inBoxes.Body seen) (body_moves (moof_boxes id end) wrap_moof seen) _ s (moof_body_spells id s)
 
 leaf_body_spells : (id : ℕ) (s : LeafBody) → Spells (step_leaf_body id) (leaf_body_number s) s
 unfolding leaf_body_number step_leaf_body lift
@@ -126,8 +123,8 @@ leaf_body_spells id (leaves.Moof end s) = inside_spells (step_moof id end) (step
 
 pub leaf_spells : (id : ℕ) (slot : Slot) (s : LeafBoxes) → Spells (step_leaf id slot) (leaf_number s) s
 unfolding leaf_number step_leaf
-leaf_spells id slot (leafBox.Head so h) = inside_spells _ (step_leaf id slot) (leafBox.Head so) (head_moves (leaf_boxes id slot) wrap_leaf so) _ h (head_spells slot.end h)
-leaf_spells id slot (leafBox.Body so s) = inside_spells _ (step_leaf id slot) (leafBox.Body so) (body_moves (leaf_boxes id slot) wrap_leaf so) _ s (leaf_body_spells id s)
+leaf_spells id slot (inBoxes.Head so h) = inside_spells _ (step_leaf id slot) (inBoxes.Head so) (head_moves (leaf_boxes id slot) wrap_leaf so) _ h (head_spells slot.end h)
+leaf_spells id slot (inBoxes.Body so s) = inside_spells _ (step_leaf id slot) (inBoxes.Body so) (body_moves (leaf_boxes id slot) wrap_leaf so) _ s (leaf_body_spells id s)
 
 opening_body_spells : (brand : ℕ) (s : OpeningBody) → Spells (step_opening_body brand) (opening_body_number s) s
 unfolding opening_body_number step_opening_body lift keep_in
@@ -137,8 +134,8 @@ opening_body_spells brand (openings.Index span s) = inside_spells (step_sidx top
 
 opening_spells : (brand : ℕ) (s : OpeningBoxes) → Spells (step_opening brand) (opening_number s) s
 unfolding opening_number step_opening
-opening_spells brand (openingBox.Head branded h) = inside_spells _ (step_opening brand) (openingBox.Head branded) (head_moves (opening brand) wrap_opening branded) _ h (head_spells limit h)
-opening_spells brand (openingBox.Body branded s) = inside_spells _ (step_opening brand) (openingBox.Body branded) (body_moves (opening brand) wrap_opening branded) _ s (opening_body_spells brand s)
+opening_spells brand (inBoxes.Head branded h) = inside_spells _ (step_opening brand) (inBoxes.Head branded) (head_moves (opening brand) wrap_opening branded) _ h (head_spells limit h)
+opening_spells brand (inBoxes.Body branded s) = inside_spells _ (step_opening brand) (inBoxes.Body branded) (body_moves (opening brand) wrap_opening branded) _ s (opening_body_spells brand s)
 
 gap_spells : (end : ℕ) (s : GapBoxes) → Spells (step_gap end) (gap_number s) s
 unfolding gap_number step_gap

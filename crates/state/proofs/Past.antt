@@ -11,8 +11,8 @@ use Rattle.state.specs.declared.Sidx.{Sidx}
 use Rattle.state.specs.declared.Sidx.TheVariants as sidx
 use Rattle.state.specs.declared.OpeningBody.{OpeningBody}
 use Rattle.state.specs.declared.OpeningBody.TheVariants as openings
-use Rattle.state.specs.declared.OpeningBoxes.{OpeningBoxes}
-use Rattle.state.specs.declared.OpeningBoxes.TheVariants as openingBox
+use Rattle.state.specs.Boxed.{OpeningBoxes}
+use Rattle.machine.specs.declared.BoxesSo.TheVariants as inBoxes
 use Rattle.state.specs.declared.InnerBox.TheVariants as inners
 use Rattle.state.specs.declared.Stage.{Stage}
 use Rattle.state.specs.declared.Stage.TheVariants as stage
@@ -50,8 +50,8 @@ opening_body_place (openings.Index span s) i h e = let fits : i < 0 + level_byte
 
 opening_place : (s : OpeningBoxes) (i : ℕ) → Within (opening_bounds s) → opening_byte s ≡ some i → i < work_bytes
 unfolding opening_bounds opening_byte
-opening_place (openingBox.Head branded k) i h e = let z : ◌≡◌ {A = ℕ} 0 1 = cc in absurd (omega arith)
-opening_place (openingBox.Body branded s) i h e = opening_body_place s i h e
+opening_place (inBoxes.Head branded k) i h e = let z : ◌≡◌ {A = ℕ} 0 1 = cc in absurd (omega arith)
+opening_place (inBoxes.Body branded s) i h e = opening_body_place s i h e
 
 stage_place : (s : Stage) (now i : ℕ) → Within (stage_bounds s now) → stage_byte s ≡ some i → i < work_bytes
 unfolding stage_bounds stage_byte inner_bounds part_of

@@ -27,7 +27,7 @@ use Rattle.state.specs.declared.TrafPhase.{TrafPhase}
 use Rattle.state.specs.declared.TrafPhase.TheVariants as track
 use Rattle.state.specs.declared.StypPart.TheVariants as styps
 use Rattle.state.specs.declared.OpeningBody.TheVariants as openings
-use Rattle.state.specs.declared.OpeningBoxes.TheVariants as boxes
+use Rattle.machine.specs.declared.BoxesSo.TheVariants as inBoxes
 use Rattle.state.specs.declared.InnerBox.TheVariants as inners
 use Rattle.state.specs.declared.Draft.{Draft}
 use Rattle.state.specs.declared.Sums.{Sums}
@@ -266,7 +266,7 @@ past_the_limit (stage.Inner top ls slot s) f b elsewhere = refl
 -- Inside an entry of the top index, and of an inner one: 3, and the byte is stored at its place.
 pub past_in_entry : (brand : ℕ) (branded : Bool) (span : Span) (e : EntryPart) (d : Draft) (s : Sums) (more acc : ℕ) (top : Top) (ls : Levels) (slot : Slot) (f : Flow) (b : ℕ) →
     let x : Sidx = indexes.Entry e d s more acc in
-    (step (reading 268435456 (stage.Opening brand (boxes.Body branded (openings.Index span x))) f) b
+    (step (reading 268435456 (stage.Opening brand (inBoxes.Body branded (openings.Index span x))) f) b
     ≡ refused 268435457 (refusal 3 268435456) (left (keep_byte Index.topmost e s f more b)))
     × (step (reading 268435456 (stage.Inner top ls slot (inners.Body span x)) f) b
     ≡ refused 268435457 (refusal 3 268435456) (left (keep_byte (Index.under top slot (depth ls)) e s f more b)))

@@ -8,17 +8,14 @@ use Rattle.machine.specs.declared.Head.TheVariants as at
 use Rattle.state.specs.declared.Sidx.{Sidx}
 use Rattle.state.specs.declared.Sidx.TheVariants as sidx
 use Rattle.state.specs.declared.TrafBody.TheVariants as trafs
-use Rattle.state.specs.declared.TrafBoxes.{TrafBoxes}
-use Rattle.state.specs.declared.TrafBoxes.TheVariants as trafBox
+use Rattle.state.specs.Boxed.{TrafBoxes}
+use Rattle.machine.specs.declared.BoxesSo.TheVariants as inBoxes
 use Rattle.state.specs.declared.MoofBody.TheVariants as moofs
-use Rattle.state.specs.declared.MoofBoxes.{MoofBoxes}
-use Rattle.state.specs.declared.MoofBoxes.TheVariants as moofBox
+use Rattle.state.specs.Boxed.{MoofBoxes}
 use Rattle.state.specs.declared.LeafBody.TheVariants as leaves
-use Rattle.state.specs.declared.LeafBoxes.{LeafBoxes}
-use Rattle.state.specs.declared.LeafBoxes.TheVariants as leafBox
+use Rattle.state.specs.Boxed.{LeafBoxes}
 use Rattle.state.specs.declared.OpeningBody.TheVariants as openings
-use Rattle.state.specs.declared.OpeningBoxes.{OpeningBoxes}
-use Rattle.state.specs.declared.OpeningBoxes.TheVariants as openingBox
+use Rattle.state.specs.Boxed.{OpeningBoxes}
 use Rattle.state.specs.declared.GapBoxes.{GapBoxes}
 use Rattle.state.specs.declared.GapBoxes.TheVariants as gaps
 use Rattle.state.specs.declared.InnerBox.TheVariants as inners
@@ -41,22 +38,22 @@ head_unstored (at.Large pos kind more acc) = refl
 
 traf_unstored : (s : TrafBoxes) → (traf_number s).place ≡ none
 unfolding traf_number traf_body_number
-traf_unstored (trafBox.Head so h) = head_unstored h
-traf_unstored (trafBox.Body so (trafs.Skip stop)) = refl
-traf_unstored (trafBox.Body so (trafs.Rest stop r)) = refl
-traf_unstored (trafBox.Body so (trafs.Field p more acc)) = refl
+traf_unstored (inBoxes.Head so h) = head_unstored h
+traf_unstored (inBoxes.Body so (trafs.Skip stop)) = refl
+traf_unstored (inBoxes.Body so (trafs.Rest stop r)) = refl
+traf_unstored (inBoxes.Body so (trafs.Field p more acc)) = refl
 
 moof_unstored : (s : MoofBoxes) → (moof_number s).place ≡ none
 unfolding moof_number moof_body_number
-moof_unstored (moofBox.Head seen h) = head_unstored h
-moof_unstored (moofBox.Body seen (moofs.Skip stop)) = refl
-moof_unstored (moofBox.Body seen (moofs.Traf span s)) = traf_unstored s
+moof_unstored (inBoxes.Head seen h) = head_unstored h
+moof_unstored (inBoxes.Body seen (moofs.Skip stop)) = refl
+moof_unstored (inBoxes.Body seen (moofs.Traf span s)) = traf_unstored s
 
 leaf_unstored : (s : LeafBoxes) → (leaf_number s).place ≡ none
 unfolding leaf_number leaf_body_number
-leaf_unstored (leafBox.Head so h) = head_unstored h
-leaf_unstored (leafBox.Body so (leaves.Skip stop)) = refl
-leaf_unstored (leafBox.Body so (leaves.Moof end s)) = moof_unstored s
+leaf_unstored (inBoxes.Head so h) = head_unstored h
+leaf_unstored (inBoxes.Body so (leaves.Skip stop)) = refl
+leaf_unstored (inBoxes.Body so (leaves.Moof end s)) = moof_unstored s
 
 gap_unstored : (s : GapBoxes) → (gap_number s).place ≡ none
 unfolding gap_number
@@ -75,10 +72,10 @@ module _ (work : List ℕ) (b : ℕ) where
 
   opening_stored : (s : OpeningBoxes) → one (opening_number s) ≡ stored_at work (opening_byte s) b
   unfolding opening_number opening_body_number opening_byte opening_body_byte put_in stored_at
-  opening_stored (openingBox.Head branded h) = rw (head_unstored h)
-  opening_stored (openingBox.Body branded (openings.Skip stop)) = refl
-  opening_stored (openingBox.Body branded (openings.Styp span q listed more acc)) = refl
-  opening_stored (openingBox.Body branded (openings.Index span s)) = sidx_stored topmost s
+  opening_stored (inBoxes.Head branded h) = rw (head_unstored h)
+  opening_stored (inBoxes.Body branded (openings.Skip stop)) = refl
+  opening_stored (inBoxes.Body branded (openings.Styp span q listed more acc)) = refl
+  opening_stored (inBoxes.Body branded (openings.Index span s)) = sidx_stored topmost s
 
   pub stage_stored : (s : Stage) → work_on s work (b ∷ []) ≡ stored_at work (stage_byte s) b
   unfolding stage_number inner_number stage_byte put_in stored_at

@@ -26,17 +26,15 @@ use Rattle.state.specs.declared.TrafPart.{TrafPart}
 use Rattle.state.specs.declared.TrafPart.TheVariants as part
 use Rattle.state.specs.declared.TrafBody.{TrafBody}
 use Rattle.state.specs.declared.TrafBody.TheVariants as trafs
-use Rattle.state.specs.declared.TrafBoxes.{TrafBoxes}
-use Rattle.state.specs.declared.TrafBoxes.TheVariants as trafBox
+use Rattle.state.specs.Boxed.{TrafBoxes}
+use Rattle.machine.specs.declared.BoxesSo.TheVariants as inBoxes
 use Rattle.state.specs.declared.MoofBody.{MoofBody}
 use Rattle.state.specs.declared.MoofBody.TheVariants as moofs
-use Rattle.state.specs.declared.MoofBoxes.{MoofBoxes}
-use Rattle.state.specs.declared.MoofBoxes.TheVariants as moofBox
+use Rattle.state.specs.Boxed.{MoofBoxes}
 use Rattle.state.specs.declared.LeafSo.{LeafSo}
 use Rattle.state.specs.declared.LeafBody.{LeafBody}
 use Rattle.state.specs.declared.LeafBody.TheVariants as leaves
-use Rattle.state.specs.declared.LeafBoxes.{LeafBoxes}
-use Rattle.state.specs.declared.LeafBoxes.TheVariants as leafBox
+use Rattle.state.specs.Boxed.{LeafBoxes}
 use Rattle.state.specs.Flow.{Flow, Left, left}
 use Rattle.table.specs.Table.{room, most_records, record_numbers}
 use Rattle.state.specs.Rows.{is, top_lengths, traf_faults, leaf_faults, no_room}
@@ -145,8 +143,8 @@ module _ (t : ℕ) where
 
   step_traf_lem : (id : ℕ) (span : Span) (s : TrafBoxes) (f : Flow) (n b : ℕ) → n ≤ limit → b < 256 → Within (traf_bounds s) → Flows t f → KeptIn t traf_bounds Fine (step_traf id span s f n b)
   unfolding step_traf traf_bounds
-  step_traf_lem id span (trafBox.Head so h) f n b hn hb w k = traf_box id span so (in_head h) f n b hn hb w k
-  step_traf_lem id span (trafBox.Body so s) f n b hn hb w k = traf_box id span so (in_body s) f n b hn hb w k
+  step_traf_lem id span (inBoxes.Head so h) f n b hn hb w k = traf_box id span so (in_head h) f n b hn hb w k
+  step_traf_lem id span (inBoxes.Body so s) f n b hn hb w k = traf_box id span so (in_body s) f n b hn hb w k
 
   -- A `moof`.
   skip_moof_lem : (stop : ℕ) (f : Flow) (n : ℕ) → Flows t f → KeptIn t moof_body_bounds Fine (skip_moof stop f n)
@@ -188,8 +186,8 @@ module _ (t : ℕ) where
 
   step_moof_lem : (id end : ℕ) (s : MoofBoxes) (f : Flow) (n b : ℕ) → n ≤ limit → b < 256 → Within (moof_bounds s) → Flows t f → KeptIn t moof_bounds Fine (step_moof id end s f n b)
   unfolding step_moof moof_bounds
-  step_moof_lem id end (moofBox.Head seen h) f n b hn hb w k = moof_box id end seen (in_head h) f n b hn hb w k
-  step_moof_lem id end (moofBox.Body seen s) f n b hn hb w k = moof_box id end seen (in_body s) f n b hn hb w k
+  step_moof_lem id end (inBoxes.Head seen h) f n b hn hb w k = moof_box id end seen (in_head h) f n b hn hb w k
+  step_moof_lem id end (inBoxes.Body seen s) f n b hn hb w k = moof_box id end seen (in_body s) f n b hn hb w k
 
   -- A leaf.
   skip_leaf_lem : (stop : ℕ) (f : Flow) (n : ℕ) → Flows t f → KeptIn t leaf_body_bounds Fine (skip_leaf stop f n)
@@ -243,5 +241,5 @@ module _ (t : ℕ) where
 
   pub step_leaf_lem : (id : ℕ) (slot : Slot) (s : LeafBoxes) (f : Flow) (n b : ℕ) → n ≤ limit → b < 256 → Within (leaf_bounds s) → Flows t f → KeptIn t leaf_bounds Roomy (step_leaf id slot s f n b)
   unfolding step_leaf leaf_bounds
-  step_leaf_lem id slot (leafBox.Head so h) f n b hn hb w k = leaf_box id slot so (in_head h) f n b hn hb w k
-  step_leaf_lem id slot (leafBox.Body so s) f n b hn hb w k = leaf_box id slot so (in_body s) f n b hn hb w k
+  step_leaf_lem id slot (inBoxes.Head so h) f n b hn hb w k = leaf_box id slot so (in_head h) f n b hn hb w k
+  step_leaf_lem id slot (inBoxes.Body so s) f n b hn hb w k = leaf_box id slot so (in_body s) f n b hn hb w k

@@ -17,17 +17,14 @@ use Rattle.state.specs.declared.TrafPart.TheVariants as trafPart
 use Rattle.state.specs.declared.Sidx.{Sidx}
 use Rattle.state.specs.declared.Sidx.TheVariants as sidx
 use Rattle.state.specs.declared.TrafBody.TheVariants as trafs
-use Rattle.state.specs.declared.TrafBoxes.{TrafBoxes}
-use Rattle.state.specs.declared.TrafBoxes.TheVariants as trafBox
+use Rattle.state.specs.Boxed.{TrafBoxes}
+use Rattle.machine.specs.declared.BoxesSo.TheVariants as inBoxes
 use Rattle.state.specs.declared.MoofBody.TheVariants as moofs
-use Rattle.state.specs.declared.MoofBoxes.{MoofBoxes}
-use Rattle.state.specs.declared.MoofBoxes.TheVariants as moofBox
+use Rattle.state.specs.Boxed.{MoofBoxes}
 use Rattle.state.specs.declared.LeafBody.TheVariants as leaves
-use Rattle.state.specs.declared.LeafBoxes.{LeafBoxes}
-use Rattle.state.specs.declared.LeafBoxes.TheVariants as leafBox
+use Rattle.state.specs.Boxed.{LeafBoxes}
 use Rattle.state.specs.declared.OpeningBody.TheVariants as openings
-use Rattle.state.specs.declared.OpeningBoxes.{OpeningBoxes}
-use Rattle.state.specs.declared.OpeningBoxes.TheVariants as openingBox
+use Rattle.state.specs.Boxed.{OpeningBoxes}
 use Rattle.state.specs.declared.GapBoxes.{GapBoxes}
 use Rattle.state.specs.declared.GapBoxes.TheVariants as gaps
 use Rattle.state.specs.declared.InnerBox.{InnerBox}
@@ -95,29 +92,29 @@ sidx_fits p (sidx.Entry e d s more acc) h w =
 
 traf_fits : (s : TrafBoxes) → Within (traf_bounds s) → Fits (traf_number s)
 unfolding traf_bounds traf_number traf_body_bounds traf_body_number Short
-traf_fits (trafBox.Head so h) w = head_fits h w
-traf_fits (trafBox.Body so (trafs.Skip stop)) w = (absent_fits, tt)
-traf_fits (trafBox.Body so (trafs.Rest stop r)) w = (absent_fits, tt)
-traf_fits (trafBox.Body so (trafs.Field p more acc)) w = (widen (traf_most p) more acc (traf_most_lem p) w, tt)
+traf_fits (inBoxes.Head so h) w = head_fits h w
+traf_fits (inBoxes.Body so (trafs.Skip stop)) w = (absent_fits, tt)
+traf_fits (inBoxes.Body so (trafs.Rest stop r)) w = (absent_fits, tt)
+traf_fits (inBoxes.Body so (trafs.Field p more acc)) w = (widen (traf_most p) more acc (traf_most_lem p) w, tt)
 
 moof_fits : (s : MoofBoxes) → Within (moof_bounds s) → Fits (moof_number s)
 unfolding moof_bounds moof_number moof_body_bounds moof_body_number Short
-moof_fits (moofBox.Head seen h) w = head_fits h w
-moof_fits (moofBox.Body seen (moofs.Skip stop)) w = (absent_fits, tt)
-moof_fits (moofBox.Body seen (moofs.Traf span s)) w = traf_fits s w
+moof_fits (inBoxes.Head seen h) w = head_fits h w
+moof_fits (inBoxes.Body seen (moofs.Skip stop)) w = (absent_fits, tt)
+moof_fits (inBoxes.Body seen (moofs.Traf span s)) w = traf_fits s w
 
 pub leaf_fits : (s : LeafBoxes) → Within (leaf_bounds s) → Fits (leaf_number s)
 unfolding leaf_bounds leaf_number leaf_body_bounds leaf_body_number Short
-leaf_fits (leafBox.Head so h) w = head_fits h w
-leaf_fits (leafBox.Body so (leaves.Skip stop)) w = (absent_fits, tt)
-leaf_fits (leafBox.Body so (leaves.Moof end s)) w = moof_fits s w
+leaf_fits (inBoxes.Head so h) w = head_fits h w
+leaf_fits (inBoxes.Body so (leaves.Skip stop)) w = (absent_fits, tt)
+leaf_fits (inBoxes.Body so (leaves.Moof end s)) w = moof_fits s w
 
 opening_fits : (s : OpeningBoxes) → Within (opening_bounds s) → Fits (opening_number s)
 unfolding opening_bounds opening_number opening_body_bounds opening_body_number Short part_of
-opening_fits (openingBox.Head branded h) w = head_fits h w
-opening_fits (openingBox.Body branded (openings.Skip stop)) w = (absent_fits, tt)
-opening_fits (openingBox.Body branded (openings.Styp span p listed more acc)) w = (widen 3 more acc (omega arith) w, tt)
-opening_fits (openingBox.Body branded (openings.Index span s)) w = sidx_fits topmost s (omega arith) w
+opening_fits (inBoxes.Head branded h) w = head_fits h w
+opening_fits (inBoxes.Body branded (openings.Skip stop)) w = (absent_fits, tt)
+opening_fits (inBoxes.Body branded (openings.Styp span p listed more acc)) w = (widen 3 more acc (omega arith) w, tt)
+opening_fits (inBoxes.Body branded (openings.Index span s)) w = sidx_fits topmost s (omega arith) w
 
 gap_fits : (s : GapBoxes) → Within (gap_bounds s) → Fits (gap_number s)
 unfolding gap_bounds gap_number Short

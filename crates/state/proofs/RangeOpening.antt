@@ -16,8 +16,8 @@ use Rattle.state.specs.declared.StypPart.{StypPart}
 use Rattle.state.specs.declared.StypPart.TheVariants as styps
 use Rattle.state.specs.declared.OpeningBody.{OpeningBody}
 use Rattle.state.specs.declared.OpeningBody.TheVariants as body
-use Rattle.state.specs.declared.OpeningBoxes.{OpeningBoxes}
-use Rattle.state.specs.declared.OpeningBoxes.TheVariants as boxes
+use Rattle.state.specs.Boxed.{OpeningBoxes}
+use Rattle.machine.specs.declared.BoxesSo.TheVariants as inBoxes
 use Rattle.state.specs.declared.GapBoxes.{GapBoxes}
 use Rattle.state.specs.declared.GapBoxes.TheVariants as gaps
 use Rattle.state.specs.Flow.{Flow, left}
@@ -96,8 +96,8 @@ module _ (t : ℕ) where
   pub step_opening_lem : (brand : ℕ) (s : OpeningBoxes) (f : Flow) (n b : ℕ) → n ≤ limit → b < 256 → Within (opening_bounds s) → Flows t f →
       KeptIn t opening_bounds (Read t topmost) (step_opening brand s f n b)
   unfolding step_opening opening_bounds
-  step_opening_lem brand (boxes.Head branded h) f n b hn hb w k = opening_box brand branded (in_head h) f n b hn hb w k
-  step_opening_lem brand (boxes.Body branded s) f n b hn hb w k = opening_box brand branded (in_body s) f n b hn hb w k
+  step_opening_lem brand (inBoxes.Head branded h) f n b hn hb w k = opening_box brand branded (in_head h) f n b hn hb w k
+  step_opening_lem brand (inBoxes.Body branded s) f n b hn hb w k = opening_box brand branded (in_body s) f n b hn hb w k
 
   -- The gap.
   abbrev pub Passes : Unit {0} → Flow → Type 0

@@ -26,8 +26,8 @@ use Rattle.state.specs.declared.Slot.{Slot}
 use Rattle.state.specs.declared.IndexRead.{IndexRead}
 use Rattle.state.specs.declared.InnerBox.TheVariants as inners
 use Rattle.state.specs.declared.GapBoxes.{GapBoxes}
-use Rattle.state.specs.declared.LeafBoxes.{LeafBoxes}
-use Rattle.state.specs.declared.LeafBoxes.TheVariants as leafBox
+use Rattle.state.specs.Boxed.{LeafBoxes}
+use Rattle.machine.specs.declared.BoxesSo.TheVariants as inBoxes
 use Rattle.state.specs.declared.Stage.{Stage}
 use Rattle.state.specs.declared.Stage.TheVariants as stage
 use Rattle.state.specs.Flow.{Flow, Left, with_now, listed}
@@ -160,7 +160,7 @@ step_slot_lem : (top : Top) (ls : Levels) (inner : Bool) (slot : Slot) (f : Flow
     StageKept (step_slot top ls inner slot f n b)
 unfolding step_slot leaf_bounds head_bounds
 step_slot_lem top ls true slot f n b hn hb a k = step_inner_lem top ls slot f.now (in_head at.First) f n b hn hb a tt (k, refl)
-step_slot_lem top ls false slot f n b hn hb a k = step_in_leaf_lem top ls slot (leafBox.Head (leaf_so0 f.last) at.First) f n b hn hb a tt k
+step_slot_lem top ls false slot f n b hn hb a k = step_in_leaf_lem top ls slot (inBoxes.Head (leaf_so0 f.last) at.First) f n b hn hb a tt k
 
 step_entry_lem : (top : Top) (ls : Levels) (e : StoredEntry) (f : Flow) (n b : ℕ) → n ≤ limit → b < 256 → Within (top_bounds top) →
     Within (levels_bounds ls) → Comes ls f.now → f.leaves ≤ most_records →

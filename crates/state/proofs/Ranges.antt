@@ -1,5 +1,6 @@
 -- The ranges are kept: by one byte, by a list of bytes, by start, feed and finish. From a state outside them feed and finish hand
 -- the state back as it is.
+use Rattle.std.specs.Prelude.{ℕ, Result}
 use Prim.Native.Nat.{ℕ, suc, ◌≤◌, ◌<◌}
 use mathlib.Core.Path.{◌≡◌, refl, ap}
 use mathlib.Core.List.{List, [], ◌∷◌}
@@ -21,7 +22,6 @@ use Rattle.state.specs.declared.Stage.TheVariants as stage
 use Rattle.state.specs.declared.Top.{Top}
 use Rattle.state.specs.declared.State.{State}
 use Rattle.state.specs.declared.State.TheVariants as state
-use Rattle.state.specs.declared.FeedAnswer.{FeedAnswer}
 use Rattle.state.specs.Flow.{Flow, Left, work_bytes}
 use Rattle.state.specs.Step.{World, reading, ended, refused, settle, past_limit, entry_shows, over_limit, past_material, step, step_all}
 use Rattle.state.specs.Ranges.{head_bounds, opening_bounds, stage_bounds, bounds, in_range, InRange}
@@ -86,8 +86,8 @@ feed_state_kept (state.Accepted n leaves top) piece work table h g = g
 pub feed_in_range : (s : State) (piece work table : List ℕ) → AllBytes piece → InRange s → InRange (feed_of s piece work table).state
 unfolding feed_of
 feed_in_range s piece work table h g =
-    pick_holds (λ (o : Out FeedAnswer). InRange o.state) (ltb (length work) work_bytes) _ _ (λ e. g)
-    (λ e. pick_holds (λ (o : Out FeedAnswer). InRange o.state) (in_range s) _ _ (λ e'. feed_state_kept s piece work table h g) (λ e'. g))
+    pick_holds (λ (o : Out (Result ℕ Refusal)). InRange o.state) (ltb (length work) work_bytes) _ _ (λ e. g)
+    (λ e. pick_holds (λ (o : Out (Result ℕ Refusal)). InRange o.state) (in_range s) _ _ (λ e'. feed_state_kept s piece work table h g) (λ e'. g))
 
 finish_state_kept : (s : State) → InRange s → InRange (finish_state s).state
 unfolding finish_state bounds
@@ -105,7 +105,7 @@ finish_in_range s g = pick_holds (λ (o : Finished). InRange o.state) (in_range 
 pub feed_outside : (s : State) (piece work table : List ℕ) → in_range s ≡ false → (feed_of s piece work table).state ≡ s
 unfolding feed_of
 feed_outside s piece work table h =
-    pick_if (ltb (length work) work_bytes) (λ (o : Out FeedAnswer). o.state) _ _ s (λ e. refl) (λ e. ap (λ (o : Out FeedAnswer). o.state) (pick_no (in_range s) _ _ h))
+    pick_if (ltb (length work) work_bytes) (λ (o : Out (Result ℕ Refusal)). o.state) _ _ s (λ e. refl) (λ e. ap (λ (o : Out (Result ℕ Refusal)). o.state) (pick_no (in_range s) _ _ h))
 
 pub finish_outside : (s : State) → in_range s ≡ false → (finish_of s).state ≡ s
 unfolding finish_of

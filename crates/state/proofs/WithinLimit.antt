@@ -36,13 +36,12 @@ use Rattle.state.specs.declared.StypPart.{StypPart}
 use Rattle.state.specs.declared.StypPart.TheVariants as styps
 use Rattle.state.specs.declared.OpeningBody.{OpeningBody}
 use Rattle.state.specs.declared.OpeningBody.TheVariants as body
-use Rattle.state.specs.declared.OpeningBoxes.{OpeningBoxes}
-use Rattle.state.specs.declared.OpeningBoxes.TheVariants as boxes
+use Rattle.state.specs.Boxed.{OpeningBoxes}
+use Rattle.machine.specs.declared.BoxesSo.TheVariants as inBoxes
 use Rattle.state.specs.declared.GapBoxes.{GapBoxes}
 use Rattle.state.specs.declared.GapBoxes.TheVariants as gaps
 use Rattle.state.specs.declared.LeafSo.{LeafSo}
-use Rattle.state.specs.declared.LeafBoxes.{LeafBoxes}
-use Rattle.state.specs.declared.LeafBoxes.TheVariants as leafBox
+use Rattle.state.specs.Boxed.{LeafBoxes}
 use Rattle.state.specs.declared.Top.{Top}
 use Rattle.state.specs.declared.Level.{Level}
 use Rattle.state.specs.declared.Levels.{Levels}
@@ -213,8 +212,8 @@ InOpeningBody n (body.Styp span q listed more acc) f = Unit {0}
 InOpeningBody n (body.Index span s) f = (span.end ≤ limit) × InSidx span n s
 
 abbrev InOpening : ℕ → OpeningBoxes → Flow → Type 0
-InOpening n (boxes.Head branded h) f = Unit {0}
-InOpening n (boxes.Body branded s) f = InOpeningBody n s f
+InOpening n (inBoxes.Head branded h) f = Unit {0}
+InOpening n (inBoxes.Body branded s) f = InOpeningBody n s f
 
 abbrev Opens : ℕ → OpeningGave → Flow → Type 0
 Opens n passed f = Unit {0}
@@ -264,8 +263,8 @@ opening_box n brand branded s f b h =
 
 step_opening_lem : (n brand : ℕ) (s : OpeningBoxes) (f : Flow) (b : ℕ) → InOpening n s f → Unrefused (InOpening (suc n)) (λ x g. Read topmost (suc n) x) (step_opening brand s f n b)
 unfolding step_opening
-step_opening_lem n brand (boxes.Head branded x) f b h = opening_box n brand branded (in_head x) f b tt
-step_opening_lem n brand (boxes.Body branded s) f b h = opening_box n brand branded (in_body s) f b h
+step_opening_lem n brand (inBoxes.Head branded x) f b h = opening_box n brand branded (in_head x) f b tt
+step_opening_lem n brand (inBoxes.Body branded s) f b h = opening_box n brand branded (in_body s) f b h
 
 -- The gap and a leaf are over where they end.
 gap_over : (end n : ℕ) (f : Flow) → Over (λ u g. suc n ≡ end) f (gap_next end (suc n))
@@ -283,9 +282,9 @@ step_gap_lem end (gaps.Body stop) f n b = boxes_over (gap_boxes end) wrap_gap (�
 
 step_leaf_lem : (id : ℕ) (slot : Slot) (s : LeafBoxes) (f : Flow) (n b : ℕ) → Unrefused Any (λ seen g. suc n ≡ slot.end) (step_leaf id slot s f n b)
 unfolding step_leaf
-step_leaf_lem id slot (leafBox.Head so h) f n b =
+step_leaf_lem id slot (inBoxes.Head so h) f n b =
     boxes_over (leaf_boxes id slot) wrap_leaf (λ seen g. suc n ≡ slot.end) so (in_head h) f n b (λ r g. leaf_over slot (leaf_now so r) n g)
-step_leaf_lem id slot (leafBox.Body so s) f n b =
+step_leaf_lem id slot (inBoxes.Body so s) f n b =
     boxes_over (leaf_boxes id slot) wrap_leaf (λ seen g. suc n ≡ slot.end) so (in_body s) f n b (λ r g. leaf_over slot (leaf_now so r) n g)
 
 -- The first box of an index entry: the index ends no later than the entry.
@@ -353,7 +352,7 @@ module _ (top : Top) (ls : Levels) (slot : Slot) (h : Fits ls slot.end) where
 step_slot_lem : (top : Top) (ls : Levels) (inner : Bool) (slot : Slot) (f : Flow) (n b : ℕ) → Fits ls slot.end → Unrefused (InStage (suc n)) Any (step_slot top ls inner slot f n b)
 unfolding step_slot
 step_slot_lem top ls true slot f n b h = step_inner_lem top ls slot h n (in_head at.First) f b tt
-step_slot_lem top ls false slot f n b h = step_in_leaf_lem top ls slot (leafBox.Head (leaf_so0 f.last) at.First) f n b h
+step_slot_lem top ls false slot f n b h = step_in_leaf_lem top ls slot (inBoxes.Head (leaf_so0 f.last) at.First) f n b h
 
 -- each byte keeps it
 pub stage_within : (s : Stage) (f : Flow) (n b : ℕ) → InStage n s f → Unrefused (InStage (suc n)) Any (step_stage s f n b)
@@ -380,10 +379,10 @@ sidx_not p span (indexes.Entry e d s more acc) fits h = absurd (omega arith)
 
 opening_not : (s : OpeningBoxes) (f : Flow) → InOpening limit s f → opening_byte s ≡ none
 unfolding opening_byte opening_body_byte
-opening_not (boxes.Head branded h) f z = refl
-opening_not (boxes.Body branded (body.Skip stop)) f z = refl
-opening_not (boxes.Body branded (body.Styp span q listed more acc)) f z = refl
-opening_not (boxes.Body branded (body.Index span s)) f z = sidx_not topmost span s z.0 z.1
+opening_not (inBoxes.Head branded h) f z = refl
+opening_not (inBoxes.Body branded (body.Skip stop)) f z = refl
+opening_not (inBoxes.Body branded (body.Styp span q listed more acc)) f z = refl
+opening_not (inBoxes.Body branded (body.Index span s)) f z = sidx_not topmost span s z.0 z.1
 
 limit_unstored : (s : Stage) (f : Flow) → InStage limit s f → stage_byte s ≡ none
 unfolding stage_byte

@@ -1,5 +1,5 @@
 -- A leaf: whole boxes, without `styp` or `sidx`, with a `moof` before any `mdat`; a `moof` holds `traf`.
-use Rattle.std.specs.Prelude.{ℕ, suc, ◌+◌, List, [], ◌++◌, true, false, not, eqb, leb}
+use Rattle.std.specs.Prelude.{ℕ, suc, List, [], ◌++◌, true, false, not, eqb, leb}
 use Rattle.basics.specs.Choose.{pick}
 use Rattle.segment.specs.Constants.{moof, traf}
 use Rattle.machine.specs.Faults.{shows}
@@ -8,20 +8,18 @@ use Rattle.machine.specs.Heads.{box_end}
 use Rattle.machine.specs.Lists.{BoxPhase, in_head, in_body, Kind, Next, again, over, Boxes, step_boxes, go_on}
 use Rattle.machine.specs.declared.Refusal.{Refusal}
 use Rattle.machine.specs.declared.Header.{Header}
-use Rattle.machine.specs.declared.Head.TheVariants as at
 use Rattle.state.specs.declared.Span.{Span}
 use Rattle.state.specs.declared.Seen.{Seen}
 use Rattle.state.specs.declared.Slot.{Slot}
 use Rattle.state.specs.declared.MoofBody.{MoofBody}
 use Rattle.state.specs.declared.MoofBody.TheVariants as moofs
-use Rattle.state.specs.declared.MoofBoxes.{MoofBoxes}
-use Rattle.state.specs.declared.MoofBoxes.TheVariants as moofBox
+use Rattle.state.specs.Boxed.{MoofBoxes}
+use Rattle.machine.specs.declared.BoxesSo.TheVariants as inBoxes
 use Rattle.state.specs.declared.LeafSo.{LeafSo}
 use Rattle.state.specs.declared.LeafBody.{LeafBody}
 use Rattle.state.specs.declared.LeafBody.TheVariants as leaves
-use Rattle.state.specs.declared.LeafBoxes.{LeafBoxes}
-use Rattle.state.specs.declared.LeafBoxes.TheVariants as leafBox
-use Rattle.state.specs.declared.TrafBoxes.{TrafBoxes}
+use Rattle.state.specs.Boxed.{LeafBoxes}
+use Rattle.state.specs.Boxed.{TrafBoxes}
 use Rattle.state.specs.Flow.{Flow, Left, left}
 use Rattle.state.specs.Rows.{is, leaf_faults, no_room}
 use Rattle.state.specs.Opening.{span_of}
@@ -61,12 +59,12 @@ moof_boxes id end =
     record { kept = left; box = moof_kind id end; close = λ seen r f n. moof_next end (seen_now seen r) n; beside = λ seen kept n. [] }
 
 abbrev pub wrap_moof : Seen → BoxPhase MoofBody → MoofBoxes
-wrap_moof seen (in_head h) = moofBox.Head seen h
-wrap_moof seen (in_body s) = moofBox.Body seen s
+wrap_moof seen (in_head h) = inBoxes.Head seen h
+wrap_moof seen (in_body s) = inBoxes.Body seen s
 
 unfoldable pub step_moof : ℕ → ℕ → MoofBoxes → Flow → ℕ → ℕ → Sub MoofBoxes Seen Flow Left
-step_moof id end (moofBox.Head seen h) f n b = step_boxes (moof_boxes id end) wrap_moof seen (in_head h) f n b
-step_moof id end (moofBox.Body seen s) f n b = step_boxes (moof_boxes id end) wrap_moof seen (in_body s) f n b
+step_moof id end (inBoxes.Head seen h) f n b = step_boxes (moof_boxes id end) wrap_moof seen (in_head h) f n b
+step_moof id end (inBoxes.Body seen s) f n b = step_boxes (moof_boxes id end) wrap_moof seen (in_body s) f n b
 
 abbrev pub begin_moof_boxes : ℕ → ℕ → Seen → Flow → ℕ → Sub MoofBoxes Seen Flow Left
 begin_moof_boxes id end seen f n = go_on (moof_boxes id end) wrap_moof (moof_next end seen n) f
@@ -111,12 +109,12 @@ leaf_boxes id slot =
     }
 
 abbrev pub wrap_leaf : LeafSo → BoxPhase LeafBody → LeafBoxes
-wrap_leaf so (in_head h) = leafBox.Head so h
-wrap_leaf so (in_body s) = leafBox.Body so s
+wrap_leaf so (in_head h) = inBoxes.Head so h
+wrap_leaf so (in_body s) = inBoxes.Body so s
 
 unfoldable pub step_leaf : ℕ → Slot → LeafBoxes → Flow → ℕ → ℕ → Sub LeafBoxes Seen Flow Left
-step_leaf id slot (leafBox.Head so h) f n b = step_boxes (leaf_boxes id slot) wrap_leaf so (in_head h) f n b
-step_leaf id slot (leafBox.Body so s) f n b = step_boxes (leaf_boxes id slot) wrap_leaf so (in_body s) f n b
+step_leaf id slot (inBoxes.Head so h) f n b = step_boxes (leaf_boxes id slot) wrap_leaf so (in_head h) f n b
+step_leaf id slot (inBoxes.Body so s) f n b = step_boxes (leaf_boxes id slot) wrap_leaf so (in_body s) f n b
 
 -- a leaf at its first byte, after the last decode time before it
 abbrev pub leaf_so0 : ℕ → LeafSo

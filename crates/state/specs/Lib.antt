@@ -1,4 +1,6 @@
 pub mod Flow
+pub mod Boxed
+pub mod Views
 pub mod Rows
 pub mod Opening
 pub mod Sidx

@@ -12,20 +12,17 @@ use Rattle.state.specs.declared.Sidx.{Sidx}
 use Rattle.state.specs.declared.Sidx.TheVariants as sidx
 use Rattle.state.specs.declared.TrafBody.{TrafBody}
 use Rattle.state.specs.declared.TrafBody.TheVariants as trafs
-use Rattle.state.specs.declared.TrafBoxes.{TrafBoxes}
-use Rattle.state.specs.declared.TrafBoxes.TheVariants as trafBox
+use Rattle.state.specs.Boxed.{TrafBoxes}
+use Rattle.machine.specs.declared.BoxesSo.TheVariants as inBoxes
 use Rattle.state.specs.declared.MoofBody.{MoofBody}
 use Rattle.state.specs.declared.MoofBody.TheVariants as moofs
-use Rattle.state.specs.declared.MoofBoxes.{MoofBoxes}
-use Rattle.state.specs.declared.MoofBoxes.TheVariants as moofBox
+use Rattle.state.specs.Boxed.{MoofBoxes}
 use Rattle.state.specs.declared.LeafBody.{LeafBody}
 use Rattle.state.specs.declared.LeafBody.TheVariants as leaves
-use Rattle.state.specs.declared.LeafBoxes.{LeafBoxes}
-use Rattle.state.specs.declared.LeafBoxes.TheVariants as leafBox
+use Rattle.state.specs.Boxed.{LeafBoxes}
 use Rattle.state.specs.declared.OpeningBody.{OpeningBody}
 use Rattle.state.specs.declared.OpeningBody.TheVariants as openings
-use Rattle.state.specs.declared.OpeningBoxes.{OpeningBoxes}
-use Rattle.state.specs.declared.OpeningBoxes.TheVariants as openingBox
+use Rattle.state.specs.Boxed.{OpeningBoxes}
 use Rattle.state.specs.declared.GapBoxes.{GapBoxes}
 use Rattle.state.specs.declared.GapBoxes.TheVariants as gaps
 use Rattle.state.specs.declared.InnerBox.{InnerBox}
@@ -75,24 +72,24 @@ traf_body_number (trafs.Rest stop r) = absent (trafs.Rest stop r)
 traf_body_number (trafs.Field p more acc) = unstored more acc (trafs.Field p)
 
 unfoldable pub traf_number : TrafBoxes → Number TrafBoxes
-traf_number (trafBox.Head so h) = inside (trafBox.Head so) (head_number h)
-traf_number (trafBox.Body so s) = inside (trafBox.Body so) (traf_body_number s)
+traf_number (inBoxes.Head so h) = inside (inBoxes.Head so) (head_number h)
+traf_number (inBoxes.Body so s) = inside (inBoxes.Body so) (traf_body_number s)
 
 unfoldable pub moof_body_number : MoofBody → Number MoofBody
 moof_body_number (moofs.Skip stop) = absent (moofs.Skip stop)
 moof_body_number (moofs.Traf span s) = inside (moofs.Traf span) (traf_number s)
 
 unfoldable pub moof_number : MoofBoxes → Number MoofBoxes
-moof_number (moofBox.Head seen h) = inside (moofBox.Head seen) (head_number h)
-moof_number (moofBox.Body seen s) = inside (moofBox.Body seen) (moof_body_number s)
+moof_number (inBoxes.Head seen h) = inside (inBoxes.Head seen) (head_number h)
+moof_number (inBoxes.Body seen s) = inside (inBoxes.Body seen) (moof_body_number s)
 
 unfoldable pub leaf_body_number : LeafBody → Number LeafBody
 leaf_body_number (leaves.Skip stop) = absent (leaves.Skip stop)
 leaf_body_number (leaves.Moof end s) = inside (leaves.Moof end) (moof_number s)
 
 unfoldable pub leaf_number : LeafBoxes → Number LeafBoxes
-leaf_number (leafBox.Head so h) = inside (leafBox.Head so) (head_number h)
-leaf_number (leafBox.Body so s) = inside (leafBox.Body so) (leaf_body_number s)
+leaf_number (inBoxes.Head so h) = inside (inBoxes.Head so) (head_number h)
+leaf_number (inBoxes.Body so s) = inside (inBoxes.Body so) (leaf_body_number s)
 
 unfoldable pub opening_body_number : OpeningBody → Number OpeningBody
 opening_body_number (openings.Skip stop) = absent (openings.Skip stop)
@@ -100,8 +97,8 @@ opening_body_number (openings.Styp span p listed more acc) = unstored more acc (
 opening_body_number (openings.Index span s) = inside (openings.Index span) (sidx_number topmost s)
 
 unfoldable pub opening_number : OpeningBoxes → Number OpeningBoxes
-opening_number (openingBox.Head branded h) = inside (openingBox.Head branded) (head_number h)
-opening_number (openingBox.Body branded s) = inside (openingBox.Body branded) (opening_body_number s)
+opening_number (inBoxes.Head branded h) = inside (inBoxes.Head branded) (head_number h)
+opening_number (inBoxes.Body branded s) = inside (inBoxes.Body branded) (opening_body_number s)
 
 unfoldable pub gap_number : GapBoxes → Number GapBoxes
 gap_number (gaps.Head h) = inside gaps.Head (head_number h)

@@ -14,8 +14,8 @@ use Rattle.state.specs.declared.StypPart.{StypPart}
 use Rattle.state.specs.declared.StypPart.TheVariants as styps
 use Rattle.state.specs.declared.OpeningBody.{OpeningBody}
 use Rattle.state.specs.declared.OpeningBody.TheVariants as body
-use Rattle.state.specs.declared.OpeningBoxes.{OpeningBoxes}
-use Rattle.state.specs.declared.OpeningBoxes.TheVariants as boxes
+use Rattle.state.specs.Boxed.{OpeningBoxes}
+use Rattle.machine.specs.declared.BoxesSo.TheVariants as inBoxes
 use Rattle.state.specs.Flow.{Flow, Left, left}
 use Rattle.state.specs.Rows.{is, opening_faults}
 use Rattle.state.specs.Sidx.{topmost, sidx_start, step_sidx}
@@ -75,9 +75,9 @@ abbrev pub opening : ℕ → Boxes Bool OpeningBody OpeningGave IndexRead Flow L
 opening brand = record { kept = left; box = opening_kind brand; close = close_opening; beside = λ branded kept n. [] }
 
 abbrev pub wrap_opening : Bool → BoxPhase OpeningBody → OpeningBoxes
-wrap_opening branded (in_head h) = boxes.Head branded h
-wrap_opening branded (in_body s) = boxes.Body branded s
+wrap_opening branded (in_head h) = inBoxes.Head branded h
+wrap_opening branded (in_body s) = inBoxes.Body branded s
 
 unfoldable pub step_opening : ℕ → OpeningBoxes → Flow → ℕ → ℕ → Sub OpeningBoxes IndexRead Flow Left
-step_opening brand (boxes.Head branded h) f n b = step_boxes (opening brand) wrap_opening branded (in_head h) f n b
-step_opening brand (boxes.Body branded s) f n b = step_boxes (opening brand) wrap_opening branded (in_body s) f n b
+step_opening brand (inBoxes.Head branded h) f n b = step_boxes (opening brand) wrap_opening branded (in_head h) f n b
+step_opening brand (inBoxes.Body branded s) f n b = step_boxes (opening brand) wrap_opening branded (in_body s) f n b

@@ -5,8 +5,8 @@ use Rattle.state.specs.declared.Sidx.{Sidx}
 use Rattle.state.specs.declared.Sidx.TheVariants as sidx
 use Rattle.state.specs.declared.OpeningBody.{OpeningBody}
 use Rattle.state.specs.declared.OpeningBody.TheVariants as openings
-use Rattle.state.specs.declared.OpeningBoxes.{OpeningBoxes}
-use Rattle.state.specs.declared.OpeningBoxes.TheVariants as openingBox
+use Rattle.state.specs.Boxed.{OpeningBoxes}
+use Rattle.machine.specs.declared.BoxesSo.TheVariants as inBoxes
 use Rattle.state.specs.declared.InnerBox.TheVariants as inners
 use Rattle.state.specs.declared.Stage.{Stage}
 use Rattle.state.specs.declared.Stage.TheVariants as stage
@@ -24,8 +24,8 @@ opening_body_byte (openings.Styp span p listed more acc) = none
 opening_body_byte (openings.Index span s) = sidx_byte topmost s
 
 unfoldable pub opening_byte : OpeningBoxes → Option ℕ
-opening_byte (openingBox.Head branded h) = none
-opening_byte (openingBox.Body branded s) = opening_body_byte s
+opening_byte (inBoxes.Head branded h) = none
+opening_byte (inBoxes.Body branded s) = opening_body_byte s
 
 unfoldable pub stage_byte : Stage → Option ℕ
 stage_byte (stage.Opening brand s) = opening_byte s

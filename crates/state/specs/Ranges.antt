@@ -7,18 +7,16 @@ use Rattle.machine.specs.declared.Head.{Head}
 use Rattle.machine.specs.declared.Head.TheVariants as at
 use Rattle.state.specs.declared.TrafBody.{TrafBody}
 use Rattle.state.specs.declared.TrafBody.TheVariants as trafs
-use Rattle.state.specs.declared.TrafBoxes.{TrafBoxes}
-use Rattle.state.specs.declared.TrafBoxes.TheVariants as trafBox
+use Rattle.state.specs.Boxed.{TrafBoxes}
+use Rattle.machine.specs.declared.BoxesSo.TheVariants as inBoxes
 use Rattle.state.specs.declared.TrafPart.{TrafPart}
 use Rattle.state.specs.declared.TrafPart.TheVariants as trafPart
 use Rattle.state.specs.declared.MoofBody.{MoofBody}
 use Rattle.state.specs.declared.MoofBody.TheVariants as moofs
-use Rattle.state.specs.declared.MoofBoxes.{MoofBoxes}
-use Rattle.state.specs.declared.MoofBoxes.TheVariants as moofBox
+use Rattle.state.specs.Boxed.{MoofBoxes}
 use Rattle.state.specs.declared.LeafBody.{LeafBody}
 use Rattle.state.specs.declared.LeafBody.TheVariants as leaves
-use Rattle.state.specs.declared.LeafBoxes.{LeafBoxes}
-use Rattle.state.specs.declared.LeafBoxes.TheVariants as leafBox
+use Rattle.state.specs.Boxed.{LeafBoxes}
 use Rattle.state.specs.declared.IndexPart.{IndexPart}
 use Rattle.state.specs.declared.IndexPart.TheVariants as part
 use Rattle.state.specs.declared.EntryPart.{EntryPart}
@@ -29,8 +27,7 @@ use Rattle.state.specs.declared.Sidx.{Sidx}
 use Rattle.state.specs.declared.Sidx.TheVariants as sidx
 use Rattle.state.specs.declared.OpeningBody.{OpeningBody}
 use Rattle.state.specs.declared.OpeningBody.TheVariants as openings
-use Rattle.state.specs.declared.OpeningBoxes.{OpeningBoxes}
-use Rattle.state.specs.declared.OpeningBoxes.TheVariants as openingBox
+use Rattle.state.specs.Boxed.{OpeningBoxes}
 use Rattle.state.specs.declared.GapBoxes.{GapBoxes}
 use Rattle.state.specs.declared.GapBoxes.TheVariants as gaps
 use Rattle.state.specs.declared.Top.{Top}
@@ -96,24 +93,24 @@ traf_body_bounds (trafs.Rest stop r) = []
 traf_body_bounds (trafs.Field p more acc) = spelled_bounds (traf_most p) more acc
 
 unfoldable pub traf_bounds : TrafBoxes → List Bound
-traf_bounds (trafBox.Head so h) = head_bounds h
-traf_bounds (trafBox.Body so s) = traf_body_bounds s
+traf_bounds (inBoxes.Head so h) = head_bounds h
+traf_bounds (inBoxes.Body so s) = traf_body_bounds s
 
 unfoldable pub moof_body_bounds : MoofBody → List Bound
 moof_body_bounds (moofs.Skip stop) = []
 moof_body_bounds (moofs.Traf span s) = traf_bounds s
 
 unfoldable pub moof_bounds : MoofBoxes → List Bound
-moof_bounds (moofBox.Head seen h) = head_bounds h
-moof_bounds (moofBox.Body seen s) = moof_body_bounds s
+moof_bounds (inBoxes.Head seen h) = head_bounds h
+moof_bounds (inBoxes.Body seen s) = moof_body_bounds s
 
 unfoldable pub leaf_body_bounds : LeafBody → List Bound
 leaf_body_bounds (leaves.Skip stop) = []
 leaf_body_bounds (leaves.Moof end s) = moof_bounds s
 
 unfoldable pub leaf_bounds : LeafBoxes → List Bound
-leaf_bounds (leafBox.Head so h) = head_bounds h
-leaf_bounds (leafBox.Body so s) = leaf_body_bounds s
+leaf_bounds (inBoxes.Head so h) = head_bounds h
+leaf_bounds (inBoxes.Body so s) = leaf_body_bounds s
 
 unfoldable pub index_most : IndexPart → Bool → ℕ
 index_most part.Version wide = 0
@@ -168,8 +165,8 @@ opening_body_bounds (openings.Styp span p listed more acc) = spelled_bounds 3 mo
 opening_body_bounds (openings.Index span s) = sidx_bounds s
 
 unfoldable pub opening_bounds : OpeningBoxes → List Bound
-opening_bounds (openingBox.Head branded h) = head_bounds h
-opening_bounds (openingBox.Body branded s) = opening_body_bounds s
+opening_bounds (inBoxes.Head branded h) = head_bounds h
+opening_bounds (inBoxes.Body branded s) = opening_body_bounds s
 
 unfoldable pub gap_bounds : GapBoxes → List Bound
 gap_bounds (gaps.Head h) = head_bounds h

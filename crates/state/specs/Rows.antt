@@ -1,5 +1,5 @@
 -- The faults that a header shows where it stands, by the rows of document 01's table. Step and descent share them.
-use Rattle.std.specs.Prelude.{ℕ, ◌+◌, ◌-◌, ◌%◌, List, ◌++◌, Bool, true, false, not, ◌&&◌, ◌||◌, eqb, ltb, leb}
+use Rattle.std.specs.Prelude.{ℕ, ◌-◌, ◌%◌, List, ◌++◌, Bool, true, false, not, ◌&&◌, ◌||◌, eqb, ltb, leb}
 use Rattle.basics.specs.Choose.{pick}
 use Rattle.segment.specs.Constants.{levels, styp, sidx, moof, mdat, tfhd, tfdt, tfad}
 use Rattle.machine.specs.Faults.{shows}

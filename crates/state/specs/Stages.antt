@@ -18,13 +18,12 @@ use Rattle.state.specs.declared.Seen.{Seen}
 use Rattle.state.specs.declared.Slot.{Slot}
 use Rattle.state.specs.declared.IndexRead.{IndexRead}
 use Rattle.state.specs.declared.Sidx.{Sidx}
-use Rattle.state.specs.declared.OpeningBoxes.TheVariants as openings
+use Rattle.machine.specs.declared.BoxesSo.TheVariants as inBoxes
 use Rattle.state.specs.declared.GapBoxes.{GapBoxes}
 use Rattle.state.specs.declared.GapBoxes.TheVariants as gaps
 use Rattle.state.specs.declared.InnerBox.{InnerBox}
 use Rattle.state.specs.declared.InnerBox.TheVariants as inners
-use Rattle.state.specs.declared.LeafBoxes.{LeafBoxes}
-use Rattle.state.specs.declared.LeafBoxes.TheVariants as leafBox
+use Rattle.state.specs.Boxed.{LeafBoxes}
 use Rattle.state.specs.declared.Stage.{Stage}
 use Rattle.state.specs.declared.Stage.TheVariants as stage
 use Rattle.state.specs.Flow.{Flow, Left, left, with_now, listed}
@@ -134,7 +133,7 @@ step_in_leaf top ls slot s f n b = lift_leaf top ls slot (step_leaf top.id slot 
 -- an entry, at its first byte: type 0 is a leaf, type 1 covers an inner index
 unfoldable pub step_slot : Top → Levels → Bool → Slot → Flow → ℕ → ℕ → Sub'
 step_slot top ls true slot f n b = step_inner top ls slot (in_head at.First) f n b
-step_slot top ls false slot f n b = step_in_leaf top ls slot (leafBox.Head (leaf_so0 f.last) at.First) f n b
+step_slot top ls false slot f n b = step_in_leaf top ls slot (inBoxes.Head (leaf_so0 f.last) at.First) f n b
 
 -- "An entry is read back from the work area when its first byte comes."
 unfoldable pub step_entry : Top → Levels → StoredEntry → Flow → ℕ → ℕ → Sub'

@@ -5,7 +5,7 @@ use Rattle.machine.specs.Faults.{shows, refusal, unless, lowest}
 use Rattle.machine.specs.Run.{Sub, go, done, bad}
 use Rattle.machine.specs.declared.Refusal.{Refusal}
 use Rattle.machine.specs.declared.Head.TheVariants as at
-use Rattle.state.specs.declared.OpeningBoxes.TheVariants as openings
+use Rattle.machine.specs.declared.BoxesSo.TheVariants as inBoxes
 use Rattle.state.specs.declared.Stage.{Stage}
 use Rattle.state.specs.declared.Stage.TheVariants as stage
 use Rattle.state.specs.declared.Top.{Top}
@@ -61,7 +61,7 @@ step_all w [] = w
 step_all w (b ∷ bs) = step_all (step w b) bs
 
 abbrev pub stage0 : ℕ → Stage
-stage0 brand = stage.Opening brand (openings.Head false at.First)
+stage0 brand = stage.Opening brand (inBoxes.Head false at.First)
 
 abbrev pub flow0 : List ℕ → List ℕ → Flow
 flow0 work table = record { leaves = 0; now = 0; last = 0; work = work; table = table }

@@ -17,8 +17,8 @@ use Rattle.state.specs.declared.TrafPart.{TrafPart}
 use Rattle.state.specs.declared.TrafPart.TheVariants as part
 use Rattle.state.specs.declared.TrafBody.{TrafBody}
 use Rattle.state.specs.declared.TrafBody.TheVariants as body
-use Rattle.state.specs.declared.TrafBoxes.{TrafBoxes}
-use Rattle.state.specs.declared.TrafBoxes.TheVariants as boxes
+use Rattle.state.specs.Boxed.{TrafBoxes}
+use Rattle.machine.specs.declared.BoxesSo.TheVariants as inBoxes
 use Rattle.state.specs.Flow.{Flow, Left, left}
 use Rattle.state.specs.Rows.{is, traf_faults}
 
@@ -108,12 +108,12 @@ traf_boxes id span =
     }
 
 abbrev pub wrap_traf : TrafSo → BoxPhase TrafBody → TrafBoxes
-wrap_traf so (in_head h) = boxes.Head so h
-wrap_traf so (in_body s) = boxes.Body so s
+wrap_traf so (in_head h) = inBoxes.Head so h
+wrap_traf so (in_body s) = inBoxes.Body so s
 
 unfoldable pub step_traf : ℕ → Span → TrafBoxes → Flow → ℕ → ℕ → Sub TrafBoxes Seen Flow Left
-step_traf id span (boxes.Head so h) f n b = step_boxes (traf_boxes id span) wrap_traf so (in_head h) f n b
-step_traf id span (boxes.Body so s) f n b = step_boxes (traf_boxes id span) wrap_traf so (in_body s) f n b
+step_traf id span (inBoxes.Head so h) f n b = step_boxes (traf_boxes id span) wrap_traf so (in_head h) f n b
+step_traf id span (inBoxes.Body so s) f n b = step_boxes (traf_boxes id span) wrap_traf so (in_body s) f n b
 
 abbrev pub traf_so0 : Seen → TrafSo
 traf_so0 seen = record { track = track.Fresh; seen = seen }

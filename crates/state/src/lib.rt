@@ -3,7 +3,7 @@
 // read `more` bytes follow the next one, and `acc` is what those before it spell.
 #![tactic(auto)]
 
-use machine::{Head, Refusal};
+use machine::{BoxesSo, Head, Refusal};
 
 // The most bytes a segment has.
 pub const LIMIT: u64 = 268435456;
@@ -30,6 +30,7 @@ pub struct Span {
 }
 
 // The decode times of the reference track: whether this leaf has shown any, its first, and the last in the segment so far.
+// No Option: the definitions and docs/STATE.md have all three, and a state from outside may hold any two times beside false.
 #[derive(Clone, Copy)]
 pub struct Seen {
     pub any: bool,
@@ -70,11 +71,7 @@ pub enum TrafBody {
     Field { part: TrafPart, more: u64, acc: u64 },
 }
 
-#[derive(Clone, Copy)]
-pub enum TrafBoxes {
-    Head(TrafSo, Head),
-    Body(TrafSo, TrafBody),
-}
+pub type TrafBoxes = BoxesSo<TrafSo, TrafBody>;
 
 // The body of a box in a `moof`.
 #[derive(Clone, Copy)]
@@ -83,11 +80,7 @@ pub enum MoofBody {
     Traf(Span, TrafBoxes),
 }
 
-#[derive(Clone, Copy)]
-pub enum MoofBoxes {
-    Head(Seen, Head),
-    Body(Seen, MoofBody),
-}
+pub type MoofBoxes = BoxesSo<Seen, MoofBody>;
 
 // What is known of a leaf between two of its boxes: whether it has had a `moof`.
 #[derive(Clone, Copy)]
@@ -103,11 +96,7 @@ pub enum LeafBody {
     Moof { end: u64, boxes: MoofBoxes },
 }
 
-#[derive(Clone, Copy)]
-pub enum LeafBoxes {
-    Head(LeafSo, Head),
-    Body(LeafSo, LeafBody),
-}
+pub type LeafBoxes = BoxesSo<LeafSo, LeafBody>;
 
 // The numbers of an index before its entries.
 #[derive(Clone, Copy)]
@@ -191,13 +180,9 @@ pub enum OpeningBody {
 }
 
 // The boxes up to the top index: whether `styp` was read, and the box.
-#[derive(Clone, Copy)]
-pub enum OpeningBoxes {
-    Head(bool, Head),
-    Body(bool, OpeningBody),
-}
+pub type OpeningBoxes = BoxesSo<bool, OpeningBody>;
 
-// The boxes of the gap.
+// The boxes of the gap. No `BoxesSo`: the definitions and the packed state have no place for what is known between two boxes, as nothing is.
 #[derive(Clone, Copy)]
 pub enum GapBoxes {
     Head(Head),
@@ -205,7 +190,7 @@ pub enum GapBoxes {
 }
 
 // What the top index says of the whole segment.
-#[derive(Clone, Copy)]
+#[derive(Clone, Copy, PartialEq, Eq)]
 pub struct Top {
     pub id: u64,
     pub scale: u64,
@@ -222,7 +207,7 @@ pub struct Level {
     pub until: u64,
 }
 
-// The indexes that stand open, the top one first.
+// The indexes that stand open, the top one first. The definitions and the packed state have a case for each depth, and none for depth 0.
 #[derive(Clone, Copy)]
 pub enum Levels {
     One(Level),
@@ -249,7 +234,7 @@ pub struct Slot {
     pub sap: u64,
 }
 
-// The first box of an index entry.
+// The first box of an index entry. No `BoxesSo`, as the gap's: it is one box, and the definitions and the packed state hold no more.
 #[derive(Clone, Copy)]
 pub enum InnerBox {
     Head(Head),
@@ -328,16 +313,9 @@ pub struct IndexRead {
     pub durations: u64,
 }
 
-// What feed answers: the count of all bytes read, or a refusal.
+// What a call answers, and the state that it leaves: of feed the count of all bytes read, of finish the leaf count; or a refusal.
 #[derive(Clone, Copy)]
-pub enum FeedAnswer {
-    Read(u64),
-    Refused(Refusal),
-}
-
-// What finish answers: the leaf count, or a refusal.
-#[derive(Clone, Copy)]
-pub enum FinishAnswer {
-    Listed(u64),
-    Refused(Refusal),
+pub struct Answered {
+    pub answer: Result<u64, Refusal>,
+    pub state: State,
 }

@@ -1,5 +1,6 @@
 -- The summit is not empty: of all bytes, however they are cut, and of all that can be lent, there are calls as the contracts allow them. Each
 -- call answers what its definition gives.
+use Rattle.std.specs.Prelude.{ℕ, Result}
 use Prim.Native.Nat.{ℕ}
 use mathlib.Core.Path.{◌≡◌, refl, ap}
 use mathlib.Core.List.{List, [], ◌∷◌, map}
@@ -8,9 +9,9 @@ use denote.Ref.{Bor}
 use denote.MutBor.{MutBor}
 use Rattle.basics.specs.Bytes.{number, AllBytes}
 use Rattle.basics.proofs.Bytes.{bytes_first, bytes_second}
+use Rattle.machine.specs.declared.Refusal.{Refusal}
 use Rattle.state.specs.declared.State.{State}
 use Rattle.moment.specs.declared.Request.{Request}
-use Rattle.state.specs.declared.FeedAnswer.{FeedAnswer}
 use Rattle.state.specs.Calls.{Out, start_of, finish_of}
 use Rattle.state.specs.Cutting.{Held, held, held_after, feed_held, feed_all, joined}
 use Rattle.covering.specs.Lookup.{lookup_of}
@@ -37,7 +38,7 @@ module _ (κs : Lfts 3) where
   feeding : (h : Held) (part : List ℕ) → AllBytes part → FeedCall
   unfolding lent lent_whole
   feeding h part bytes =
-      let o : Out FeedAnswer = feed_held h part in
+      let o : Out (Result ℕ Refusal) = feed_held h part in
       record {
         lifetimes = κs;
         given = (h.state, (lent part, (lent_whole h.work, (lent_whole h.table, tt))));

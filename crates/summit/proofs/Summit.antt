@@ -1,5 +1,6 @@
 -- The summit: from the contracts of start, feed, finish, lookup and resolve alone to demands 2 and 3. A segment read by calls that the contracts allow
 -- is the parts fed and finished of the definition, by one equation a call; what is proved of those does the rest.
+use Rattle.std.specs.Prelude.{ℕ, Result, Ok}
 use Prim.Native.Nat.{ℕ, ◌≤◌}
 use mathlib.Core.Path.{◌≡◌, ap, sym, subst, ◌∙◌}
 use mathlib.Core.List.{List, [], ◌∷◌, map}
@@ -8,11 +9,9 @@ use lib.ListN.{length}
 use Rattle.basics.specs.Bytes.{AllBytes}
 use Rattle.basics.proofs.Bytes.{bytes_both}
 use Rattle.segment.specs.Tree.{Leaf, segment}
+use Rattle.machine.specs.declared.Refusal.{Refusal}
 use Rattle.state.specs.Flow.{work_bytes}
 use Rattle.state.specs.declared.State.{State}
-use Rattle.state.specs.declared.FeedAnswer.{FeedAnswer}
-use Rattle.state.specs.declared.FinishAnswer.{FinishAnswer}
-use Rattle.state.specs.declared.FinishAnswer.TheVariants as finishes
 use Rattle.table.specs.Table.{room}
 use Rattle.state.specs.Calls.{Out, out, start_of, Finished, finish_of, whole_of}
 use Rattle.state.specs.Cutting.{Held, held, held_after, feed_held, feed_all, finish_held, joined}
@@ -25,12 +24,12 @@ use Rattle.marks.proofs.OneOutcome.{resolve_once}
 use Rattle.demands.specs.Demands.{Accepts, BeginsWith, in_parts}
 use Rattle.moment.specs.declared.Request.{Request}
 use Rattle.moment.specs.declared.Request.TheVariants as request
-use Rattle.covering.specs.declared.LookupAnswer.{LookupAnswer}
 use Rattle.covering.specs.Lookup.{lookup_of}
 use Rattle.demands.proofs.Exact.{accepts_exactly, no_time, found, refused_exactly, earlier, past}
 use Rattle.demands.proofs.CutAnywhere.{cut_anywhere, accepted_long, accepted_belongs}
 use Rattle.summit.specs.Calls.{FeedCall, FinishCall, piece_of, given_to, held_by, InOrder, SegmentRead, request_of, table_lent, mark_of, table_of}
 use Rattle.summit.specs.DemandsMet.{RequestAnswered, AcceptedRead, DemandsMet}
+use Rattle.covering.specs.declared.Leaf.{Leaf as FoundLeaf}
 
 -- A call of feed: what it answers and leaves, and that its piece holds bytes.
 fed_as : (c : FeedCall) → (out c.result.answer c.result.state c.left.1.1.0 c.left.1.1.1.0 ≡ feed_held (given_to c) (piece_of c)) × AllBytes (piece_of c)
@@ -42,7 +41,7 @@ unfolding InOrder feed_all
 in_order_held [] before end e = sym e
 in_order_held (c ∷ cs) before end e =
     let left : held_by c ≡ held_after (feed_held before (piece_of c)) =
-    ap (λ (o : Out FeedAnswer). held_after o) (fed_as c).0 ∙ ap (λ (h : Held). held_after (feed_held h (piece_of c))) e.0 in
+    ap (λ (o : Out (Result ℕ Refusal)). held_after o) (fed_as c).0 ∙ ap (λ (h : Held). held_after (feed_held h (piece_of c))) e.0 in
     in_order_held cs (held_by c) end e.1 ∙ ap (λ (h : Held). feed_all h (map piece_of cs)) left
 
 all_bytes : (cs : List FeedCall) → AllBytes (joined (map piece_of cs))
@@ -50,7 +49,7 @@ unfolding joined
 all_bytes [] = tt
 all_bytes (c ∷ cs) = bytes_both (piece_of c) (joined (map piece_of cs)) (fed_as c).1 (all_bytes cs)
 
-module _ (brand : ℕ) (parts : List (List ℕ)) (work table : List ℕ) (o : Out FinishAnswer) (r : SegmentRead brand parts work table o) where
+module _ (brand : ℕ) (parts : List (List ℕ)) (work table : List ℕ) (o : Out (Result ℕ Refusal)) (r : SegmentRead brand parts work table o) where
   abbrev bytes : List ℕ
   bytes = joined parts
 
@@ -66,7 +65,7 @@ module _ (brand : ℕ) (parts : List (List ℕ)) (work table : List ℕ) (o : Ou
   read_is =
       let c : FinishCall = r.finish in
       let end : Held = r.end in
-      let whole : Finished → Out FinishAnswer = λ f. out f.answer f.state end.work end.table in
+      let whole : Finished → Out (Result ℕ Refusal) = λ f. out f.answer f.state end.work end.table in
       let ended : o ≡ finish_held end =
       sym r.gives ∙ ap whole (c.promised (finish_once.asks_nothing c.lifetimes c.given)) ∙ ap (λ (s : State). whole (finish_of s)) r.ends in
       ended
@@ -79,9 +78,9 @@ module _ (brand : ℕ) (parts : List (List ℕ)) (work table : List ℕ) (o : Ou
 
   -- a request looked up after it, by whichever call: an answer of the definition, with the state that is left and a table that begins with the list
   module _ (ls : List Leaf) (allowed : segment brand bytes ≡ some ls) (fits : length ls ≤ room table) (long : work_bytes ≤ length work)
-      (s : State) (lent : List ℕ) (q : Request) (a : LookupAnswer) (says : a ≡ lookup_of s lent q) (same : s ≡ o.state) (begins : BeginsWith ls lent) where
+      (s : State) (lent : List ℕ) (q : Request) (a : Result FoundLeaf Refusal) (says : a ≡ lookup_of s lent q) (same : s ≡ o.state) (begins : BeginsWith ls lent) where
     looked : a ≡ lookup_of (whole_of brand bytes work table).state lent q
-    looked = says ∙ ap (λ (z : State). lookup_of z lent q) (same ∙ ap (λ (z : Out FinishAnswer). z.state) (uncut long))
+    looked = says ∙ ap (λ (z : State). lookup_of z lent q) (same ∙ ap (λ (z : Out (Result ℕ Refusal)). z.state) (uncut long))
 
     answered : RequestAnswered brand bytes ls q a
     answered =
@@ -97,9 +96,9 @@ module _ (brand : ℕ) (parts : List (List ℕ)) (work table : List ℕ) (o : Ou
           no_time = no_time brand bytes work table read_bytes long ls allowed fits lent begins q;
         })
 
-  accepted : (k : ℕ) → o.answer ≡ finishes.Listed k → AcceptedRead brand bytes table o
+  accepted : (k : ℕ) → o.answer ≡ Ok k → AcceptedRead brand bytes table o
   accepted k e =
-      let listed : (in_parts brand parts work table).answer ≡ finishes.Listed k = sym (ap (λ (z : Out FinishAnswer). z.answer) read_is) ∙ e in
+      let listed : (in_parts brand parts work table).answer ≡ Ok k = sym (ap (λ (z : Out (Result ℕ Refusal)). z.answer) read_is) ∙ e in
       let (ls, allowed, fits, accepts, belongs) = accepted_belongs brand parts work table read_bytes k listed in
       let long : work_bytes ≤ length work = accepted_long brand parts work table k listed in
       record {

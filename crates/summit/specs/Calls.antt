@@ -1,6 +1,6 @@
 -- Calls of start, feed, finish, lookup and resolve as their contracts allow them, and a segment read by such calls. `Pre` and `Post` are a contract as
 -- the check reads it: of a function's own modules `Kinds` and `Reads`.
-use Rattle.std.specs.Prelude.{ℕ, ◌≡◌, List, [], ◌∷◌, map}
+use Rattle.std.specs.Prelude.{ℕ, ◌≡◌, List, [], ◌∷◌, map, Result}
 use contract.Lifetimes.{Lfts}
 use borrow.Fn.Kinds.{ParamKind, ResultKind, Dens, In, res_t, ended_of}
 use borrow.Fn.Kinds as kinds
@@ -8,7 +8,7 @@ use denote.Triple.Clauses.{Lasts}
 use Rattle.basics.specs.Bytes.{number}
 use Rattle.basics.specs.Outcome.{after_call}
 use Rattle.moment.specs.declared.Request.{Request}
-use Rattle.state.specs.declared.FinishAnswer.{FinishAnswer}
+use Rattle.machine.specs.declared.Refusal.{Refusal}
 use Rattle.state.specs.Calls.{Out, out}
 use Rattle.state.specs.Cutting.{Held, held}
 use Rattle.start.proofs.start.Kinds as start-kinds
@@ -67,7 +67,7 @@ InOrder before [] end = before ≡ end
 InOrder before (c ∷ cs) end = (given_to c ≡ before) × InOrder (held_by c) cs end
 
 -- A segment read: start, its parts fed in order with the two buffers, and finish, whatever the feeds answered; and what comes of it.
-pub record SegmentRead (brand : ℕ) (parts : List (List ℕ)) (work table : List ℕ) (o : Out FinishAnswer) : Type 0 where
+pub record SegmentRead (brand : ℕ) (parts : List (List ℕ)) (work table : List ℕ) (o : Out (Result ℕ Refusal)) : Type 0 where
   pub start : StartCall
   pub wants : brand_of start ≡ brand
   pub feeds : List FeedCall

@@ -1,27 +1,24 @@
 // The boxes of a `traf`, byte by byte. What flows through a reading stays as it is inside a `traf`, so that no function here takes it.
 #![tactic(auto)]
 
-ghost use Rattle.std.specs.Prelude.{ℕ, ◌+◌, ◌<◌, ◌≤◌, ◌≡◌, ◌&&◌, [], ◌++◌, ltb};
-ghost use Rattle.basics.specs.Choose.{pick};
-ghost use Rattle.segment.specs.Constants.{limit, time_limit};
-ghost use Rattle.machine.specs.Faults.{lowest};
-ghost use Rattle.machine.specs.Heads.{size_faults};
-ghost use Rattle.machine.specs.Lists.{go_on};
-ghost use Rattle.header.specs.Views.{view_head, after_body, after_header, after_head};
-ghost use Rattle.flaws.specs.Flaws.{flaw_of};
-ghost use Rattle.flaws.specs.Marks.{mark_of};
+ghost use Rattle.std.specs.Prelude.{ℕ, ◌+◌, ◌<◌, ◌≤◌, ◌≡◌, [], ⊤, refl, Ok, Err};
+ghost use Rattle.segment.specs.Constants.{limit};
+ghost use Rattle.machine.specs.Faults.{unless};
+ghost use Rattle.machine.specs.Run.{go};
+ghost use Rattle.flaws.proofs.Places.{traf_beyond};
+ghost use Rattle.state.specs.Calls.{flow_of};
 ghost use Rattle.state.specs.Flow.{Flow};
-ghost use Rattle.state.specs.Rows.{traf_faults};
-ghost use Rattle.state.specs.Traf.{nothing, timed, reference, skip_traf, rest_from, traf_ends, begin_traf, step_traf_body};
-ghost use Rattle.state.specs.Traf.{saw, traf_now, fall_faults, traf_next, traf_boxes, wrap_traf, step_traf, begin_traf_boxes};
+ghost use Rattle.state.specs.Traf.{Gave, traf_ends, step_traf_body, saw, traf_now, fall_faults, traf_boxes, step_traf, begin_traf_boxes};
 ghost use Rattle.state.specs.Ranges.{Within, traf_body_bounds, traf_bounds};
+ghost use Rattle.state.specs.Views.{view, view_as};
 ghost use Rattle.state.specs.declared.TrafBody.TheVariants as body;
 ghost use Rattle.state.specs.declared.TrafPart.TheVariants as part;
-ghost use Rattle.traf.specs.Views.{gave_of, view_body, refusal_body, view_traf, timed_track, beside_traf};
+ghost use Rattle.traf.specs.Views.{gave_of, lack_of};
 
-use flaws::{TFDT, TFHD, size_flaw, traf_flaw};
-use header::{HeadSo, HeadStep, head_byte, refused_head, spelled};
-use machine::{Head, Header, Refusal};
+use flaws::{TFDT, TFHD, traf_flaw};
+use header::spelled;
+use lists::{BodyList, BoxList, after_box, beside, list_byte, next_box, skip_to};
+use machine::{Header, Refusal, Step};
 use state::{Seen, Span, TrafBody, TrafBoxes, TrafPart, TrafPhase, TrafSo};
 
 // What a box of a `traf` gives: nothing; whether its track is the reference track; or whether it is, its place and its decode time.
@@ -32,424 +29,253 @@ pub enum Given {
     Timed(bool, u64, u64),
 }
 
-// What a byte makes of the body of a box: it is taken, or it is refused.
-#[derive(Clone, Copy)]
-pub enum BodyStep {
-    Taken(BodySo),
-    Bad(Refusal),
-}
-
-// The body of a box so far: it goes on, or it ends with what it gives.
-#[derive(Clone, Copy)]
-pub enum BodySo {
-    Going(TrafBody),
-    Ended(Given),
-}
-
-// What a byte makes of the boxes of a `traf`.
-#[derive(Clone, Copy)]
-pub enum TrafStep {
-    Go(TrafBoxes),
-    Done(Seen),
-    Bad(Refusal),
-}
-
-// A body that is skipped is over where `n` reaches its end.
-fn skip_to(stop: u64, n: u64) -> BodyStep
-    ensures { (f : Flow) → view_body f result ≡ skip_traf nothing body.Skip stop f n }
+// A number begins of which `more` bytes follow its first.
+fn number(part: TrafPart, more: u64) -> Result<Step<TrafBody, Given>, Refusal>
+    ensures { (f : Flow) → view_as gave_of f result ≡ go (body.Field part more 0) f }
 {
-    if stop <= n {
-        return BodyStep::Taken(BodySo::Ended(Given::Nothing));
-    }
-    BodyStep::Taken(BodySo::Going(TrafBody::Skip { stop }))
-}
-
-// The rest of a `tfhd` after its track ID.
-fn rest_to(stop: u64, reference: bool, n: u64) -> BodyStep
-    ensures { (f : Flow) → view_body f result ≡ rest_from stop reference f n }
-{
-    if stop <= n {
-        return BodyStep::Taken(BodySo::Ended(Given::Headed(reference)));
-    }
-    BodyStep::Taken(BodySo::Going(TrafBody::Rest { stop, reference }))
+    Ok(Step::Going(TrafBody::Field { part, more, acc: 0 }))
 }
 
 // The version of a `tfdt`, its byte the n-th: it says how long the box is.
-fn version_end(pos: u64, end: u64, v: u64, n: u64) -> BodyStep
+#[tactic(auto, unfolding(state::specs::Traf::traf_ends, state::specs::Traf::tfdt_version_faults, machine::specs::Faults::unless, machine::specs::Faults::shows, machine::specs::Faults::lowest))]
+fn version_end(pos: u64, end: u64, v: u64, n: u64) -> Result<Step<TrafBody, Given>, Refusal>
     requires { n ≤ limit }
-    ensures { (id : ℕ) (t : TrafPhase) (f : Flow) → view_body f result ≡ traf_ends id t (part.Version pos end) v f n }
+    ensures { (id : ℕ) (t : TrafPhase) (f : Flow) → view_as gave_of f result ≡ traf_ends id t (part.Version pos end) v f n }
 {
     if 1 < v {
-        return BodyStep::Bad(Refusal {
+        return Err(Refusal {
             number: 10,
             place: pos,
         });
     }
-    if v == 0 {
-        if end != n + 7 {
-            return BodyStep::Bad(Refusal {
-                number: 6,
-                place: pos,
-            });
-        }
-        let part = TrafPart::TimeFlags { pos, wide: false };
-        return BodyStep::Taken(BodySo::Going(TrafBody::Field {
-            part,
-            more: 2,
-            acc: 0,
-        }));
-    }
-    if end != n + 11 {
-        return BodyStep::Bad(Refusal {
+    let wide = v == 1;
+    if end != n + (if wide { 11 } else { 7 }) {
+        return Err(Refusal {
             number: 6,
             place: pos,
         });
     }
-    let part = TrafPart::TimeFlags { pos, wide: true };
-    BodyStep::Taken(BodySo::Going(TrafBody::Field {
-        part,
-        more: 2,
-        acc: 0,
-    }))
-}
-
-// How many bytes of a decode time follow its first.
-fn time_more(wide: bool) -> u64
-    ensures { result ≡ pick wide 7 3 }
-{
-    if wide {
-        return 7;
-    }
-    3
-}
-
-fn is_reference(t: TrafPhase) -> bool
-    ensures { result ≡ reference t }
-{
-    match t {
-        TrafPhase::Fresh => false,
-        TrafPhase::Headed { reference } => reference,
-        TrafPhase::Timed => false,
-    }
+    number(TrafPart::TimeFlags { pos, wide }, 2)
 }
 
 // A number of a `tfhd` or a `tfdt` is read; `id` is the top index's reference ID.
-fn field_end(id: u64, t: TrafPhase, p: TrafPart, v: u64, n: u64) -> BodyStep
+#[tactic(auto, using(lists::proofs::Laws::skipped), unfolding(state::specs::Traf::traf_ends, state::specs::Traf::reference))]
+fn field_end(
+    id: u64,
+    t: TrafPhase,
+    p: TrafPart,
+    v: u64,
+    n: u64,
+) -> Result<Step<TrafBody, Given>, Refusal>
     requires { n ≤ limit }
-    ensures { (f : Flow) → view_body f result ≡ traf_ends id t p v f n }
+    ensures { (f : Flow) → view_as gave_of f result ≡ traf_ends id t p v f n }
 {
     match p {
-        TrafPart::HeadFlags { end } => {
-            let part = TrafPart::TrackId { end };
-            BodyStep::Taken(BodySo::Going(TrafBody::Field {
-                part,
-                more: 3,
-                acc: 0,
-            }))
+        TrafPart::HeadFlags { end } => number(TrafPart::TrackId { end }, 3),
+        TrafPart::TrackId { end: stop } => {
+            let reference = v == id;
+            Ok(skip_to(
+                stop,
+                n,
+                TrafBody::Rest { stop, reference },
+                Given::Headed(reference),
+            ))
         }
-        TrafPart::TrackId { end } => rest_to(end, v == id, n),
         TrafPart::Version { pos, end } => version_end(pos, end, v, n),
-        TrafPart::TimeFlags { pos, wide } => {
-            let part = TrafPart::Time { pos };
-            BodyStep::Taken(BodySo::Going(TrafBody::Field {
-                part,
-                more: time_more(wide),
-                acc: 0,
-            }))
+        TrafPart::TimeFlags { pos, wide: true } => number(TrafPart::Time { pos }, 7),
+        TrafPart::TimeFlags { pos, wide: false } => number(TrafPart::Time { pos }, 3),
+        TrafPart::Time { pos } => {
+            let reference = matches!(t, TrafPhase::Headed { reference: true });
+            Ok(Step::Done(Given::Timed(reference, pos, v)))
         }
-        TrafPart::Time { pos } => BodyStep::Taken(BodySo::Ended(Given::Timed(
-            is_reference(t),
-            pos,
-            v,
-        ))),
     }
 }
 
 // One byte of a number.
-fn field_byte(id: u64, t: TrafPhase, p: TrafPart, more: u64, acc: u64, n: u64, b: u8) -> BodyStep
+#[tactic(auto, using(crate::proofs::Laws::field_small), unfolding(state::specs::Traf::step_traf_body))]
+fn field_byte(
+    id: u64,
+    t: TrafPhase,
+    p: TrafPart,
+    more: u64,
+    acc: u64,
+    n: u64,
+    b: u8,
+) -> Result<Step<TrafBody, Given>, Refusal>
     requires n_lt_limit { n < limit }
     requires within { Within (traf_body_bounds (body.Field p more acc)) }
-    ensures { (f : Flow) → view_body f result ≡ step_traf_body id t (body.Field p more acc) f n b }
+    ensures { (f : Flow) → view_as gave_of f result ≡ step_traf_body id t (body.Field p more acc) f n b }
 {
     let v = spelled(acc, b);
     if more == 0 {
         return field_end(id, t, p, v, n + 1);
     }
-    BodyStep::Taken(BodySo::Going(TrafBody::Field {
+    Ok(Step::Going(TrafBody::Field {
         part: p,
         more: more - 1,
         acc: v,
     }))
 }
 
-// One byte of the body of a box.
-fn body_byte(id: u64, t: TrafPhase, s: TrafBody, n: u64, b: u8) -> BodyStep
-    requires n_lt_limit { n < limit }
-    requires within { Within (traf_body_bounds s) }
-    ensures { (f : Flow) → view_body f result ≡ step_traf_body id t s f n b }
-{
-    match s {
-        TrafBody::Skip { stop } => skip_to(stop, n + 1),
-        TrafBody::Rest { stop, reference } => rest_to(stop, reference, n + 1),
-        TrafBody::Field { part, more, acc } => field_byte(id, t, part, more, acc, n, b),
-    }
-}
-
-// The header of a box is read, and shows no fault: its body begins.
-fn body_begin(h: Header, n: u64) -> BodyStep
-    requires { h.pos + h.size < time_limit }
-    ensures { (f : Flow) → view_body f result ≡ begin_traf h f n }
-{
-    let pos = h.pos;
-    let end = pos + h.size;
-    if h.kind == TFHD {
-        let part = TrafPart::HeadFlags { end };
-        return BodyStep::Taken(BodySo::Going(TrafBody::Field {
-            part,
-            more: 3,
-            acc: 0,
-        }));
-    }
-    if h.kind == TFDT {
-        let part = TrafPart::Version { pos, end };
-        return BodyStep::Taken(BodySo::Going(TrafBody::Field {
-            part,
-            more: 0,
-            acc: 0,
-        }));
-    }
-    skip_to(end, n)
-}
-
 // One more decode time, which counts where it is the reference track's.
+#[tactic(auto, unfolding(state::specs::Traf::saw, basics::specs::Choose::pick))]
 fn with_time(s: Seen, reference: bool, v: u64) -> Seen
     ensures { result ≡ saw s reference v }
 {
-    if reference {
-        if s.any {
-            return Seen {
-                any: true,
-                first: s.first,
-                last: v,
-            };
-        }
-        return Seen {
-            any: true,
-            first: v,
-            last: v,
-        };
+    if !reference {
+        return s;
     }
-    s
-}
-
-fn is_timed(t: TrafPhase) -> bool
-    ensures { result ≡ timed_track t }
-{
-    match t {
-        TrafPhase::Fresh => false,
-        TrafPhase::Headed { reference: _ } => false,
-        TrafPhase::Timed => true,
+    Seen {
+        any: true,
+        first: if s.any { s.first } else { v },
+        last: v,
     }
 }
 
-// A refusal at a byte inside the `traf`: where that byte is its last, what the `traf` lacks is shown beside it.
-fn worse(span: Span, t: TrafPhase, x: Refusal, n: u64) -> Refusal
-    ensures { result ≡ lowest x (beside_traf span t n) }
-{
-    if n != span.end {
-        return x;
-    }
-    if is_timed(t) {
-        return x;
-    }
-    if 16 < x.number {
-        return Refusal {
-            number: 16,
-            place: span.pos,
-        };
-    }
-    x
-}
-
-// After a box that shows no fault: the list goes on, or it ends where the `traf` does, with nothing lacking.
-fn go_on(span: Span, so: TrafSo, n: u64) -> TrafStep
-    ensures { (id : ℕ) (f : Flow) → view_traf f result ≡ go_on (traf_boxes id span) wrap_traf (traf_next span so [] n) f }
-{
-    if n != span.end {
-        return TrafStep::Go(TrafBoxes::Head(so, Head::First));
-    }
-    let track = so.track;
-    if is_timed(track) {
-        let seen = so.seen;
-        return TrafStep::Done(seen);
-    }
-    TrafStep::Bad(Refusal {
-        number: 16,
-        place: span.pos,
-    })
-}
-
-// Whether a decode time of the reference track falls.
-fn falls(seen: Seen, reference: bool, v: u64) -> bool
-    ensures { result ≡ reference && ltb v seen.last }
-{
-    if reference {
-        return v < seen.last;
-    }
-    false
-}
-
-// A `tfdt` ends with its decode time.
-fn time_end(span: Span, so: TrafSo, reference: bool, pos: u64, v: u64, n: u64) -> TrafStep
-    ensures { (id : ℕ) (f : Flow) → view_traf f result
-        ≡ go_on (traf_boxes id span) wrap_traf (traf_next span (traf_now so (timed reference pos v)) (fall_faults so.seen.last (timed reference pos v)) n) f }
+// What is known of a `traf` after a box. A decode time of the reference track may not fall.
+#[tactic(auto, unfolding(state::specs::Traf::traf_now, state::specs::Traf::fall_faults, machine::specs::Faults::shows, machine::specs::Faults::lowest, machine::specs::Faults::unless))]
+fn known_after(so: TrafSo, g: Given) -> Result<TrafSo, Refusal>
+    ensures { result ≡ unless (fall_faults so.seen.last (gave_of g)) Err (Ok (traf_now so (gave_of g))) }
 {
     let seen = so.seen;
-    if falls(seen, reference, v) {
-        return TrafStep::Bad(Refusal {
-            number: 18,
-            place: pos,
-        });
-    }
-    let later = with_time(seen, reference, v);
-    go_on(
-        span,
-        TrafSo {
-            track: TrafPhase::Timed,
-            seen: later,
-        },
-        n,
-    )
-}
-
-// A box ends with what it gives; `n` bytes up to its last.
-fn box_end(span: Span, so: TrafSo, g: Given, n: u64) -> TrafStep
-    ensures { (id : ℕ) (f : Flow) → view_traf f result ≡ go_on (traf_boxes id span) wrap_traf (traf_next span (traf_now so (gave_of g)) (fall_faults so.seen.last (gave_of g)) n) f }
-{
     match g {
-        Given::Nothing => go_on(span, so, n),
-        Given::Headed(reference) => {
-            let seen = so.seen;
-            let track = TrafPhase::Headed { reference };
-            go_on(span, TrafSo { track, seen }, n)
-        }
-        Given::Timed(reference, pos, v) => time_end(span, so, reference, pos, v, n),
+        Given::Nothing => Ok(so),
+        Given::Headed(reference) => Ok(TrafSo {
+            track: TrafPhase::Headed { reference },
+            seen,
+        }),
+        Given::Timed(true, place, v) if v < seen.last => Err(Refusal { number: 18, place }),
+        Given::Timed(reference, _, v) => Ok(TrafSo {
+            track: TrafPhase::Timed,
+            seen: with_time(seen, reference, v),
+        }),
     }
 }
 
-// The refusal that goes out where a byte of a body was not taken; of a byte that was taken there is none.
-fn refused_body(r: BodyStep) -> Refusal
-    ensures { result ≡ refusal_body r }
-{
-    match r {
-        BodyStep::Taken(_) => Refusal {
-            number: 0,
-            place: 0,
-        },
-        BodyStep::Bad(x) => x,
-    }
-}
-
-// What the body of a box answers, in the list.
-fn after_body(span: Span, so: TrafSo, r: BodyStep, n: u64) -> TrafStep
-    ensures { (id : ℕ) (f : Flow) → view_traf f result ≡ after_body (traf_boxes id span) wrap_traf so n (view_body f r) }
-{
-    let BodyStep::Taken(body) = r else {
-        let track = so.track;
-        return TrafStep::Bad(worse(span, track, refused_body(r), n));
-    };
-    match body {
-        BodySo::Going(s) => TrafStep::Go(TrafBoxes::Body(so, s)),
-        BodySo::Ended(g) => box_end(span, so, g, n),
-    }
-}
-
-// How far a `traf` has come, as a number.
-fn mark_of(t: TrafPhase) -> u64
-    ensures { result ≡ mark_of t }
+// The number of what a `traf` lacks at its end.
+#[tactic(auto, unfolding(crate::specs::Views::lack_of))]
+fn lack(t: TrafPhase) -> Option<u64>
+    ensures { result ≡ lack_of t }
 {
     match t {
-        TrafPhase::Fresh => 0,
-        TrafPhase::Headed { reference } => {
-            if reference {
-                return 3;
-            }
-            2
+        TrafPhase::Timed => None,
+        _ => Some(16),
+    }
+}
+
+// The boxes of a `traf`, as a list; `id` is the top index's reference ID.
+#[derive(Clone, Copy)]
+struct TrafList {
+    id: u64,
+    span: Span,
+}
+
+impl BoxList for TrafList {
+    type Known = TrafSo;
+
+    type Body = TrafBody;
+
+    type Gives = Given;
+
+    type Whole = Seen;
+
+    ghost Gave = { Gave };
+
+    ghost gave = { gave_of };
+
+    ghost boxes = { λ l. traf_boxes l.id l.span };
+
+    ghost Flows = { λ l f. ⊤ };
+
+    ghost flow = { λ l. flow_of 0 0 0 [] [] };
+
+    fn end(&self) -> u64 {
+        self.span.end
+    }
+
+    fn flaw(&self, so: TrafSo, h: Header) -> Option<u64> {
+        traf_flaw(so.track, h)
+    }
+
+    #[tactic(auto, using(lists::proofs::Laws::skipped), unfolding(state::specs::Traf::begin_traf, basics::specs::Choose::pick))]
+    fn begin(&self, _so: TrafSo, h: Header, n: u64) -> Result<Step<TrafBody, Given>, Refusal> {
+        let pos = h.pos;
+        let end = pos + h.size;
+        match h.kind {
+            TFHD => number(TrafPart::HeadFlags { end }, 3),
+            TFDT => number(TrafPart::Version { pos, end }, 0),
+            _ => Ok(skip_to(end, n, TrafBody::Skip { stop: end }, Given::Nothing)),
         }
-        TrafPhase::Timed => 1,
     }
+
+    #[tactic(auto, using(crate::proofs::Laws::falling, crate::proofs::Laws::clear, crate::proofs::Laws::faultless))]
+    fn close(&self, so: TrafSo, g: Given, n: u64) -> Result<Step<TrafSo, Seen>, Refusal> {
+        let so = known_after(so, g)?;
+        after_box(self.span, lack(so.track), so, so.seen, n)
+    }
+
+    #[tactic(auto, using(crate::proofs::Laws::lacks_beside))]
+    fn beside(&self, so: TrafSo, x: Refusal, n: u64) -> Refusal {
+        beside(self.span, lack(so.track), x, n)
+    }
+
+    ghost flows = { λ l. tt };
+
+    ghost kept = { λ l. refl };
+
+    ghost box_kept = { λ l a. refl };
+
+    ghost beyond = { λ l a h f. traf_beyond a.track h };
 }
 
-// The lowest number of all faults that the header of a box shows, or 0.
-fn box_flaw(end: u64, t: TrafPhase, h: Header) -> u64
-    ensures { result ≡ flaw_of (size_faults end h ++ traf_faults t h) }
-{
-    let flaw = size_flaw(end, h);
-    if flaw != 0 {
-        return flaw;
-    }
-    traf_flaw(mark_of(t), h)
-}
+impl BodyList for TrafList {
+    ghost bounds = { traf_body_bounds };
 
-// The header of a box is read: `n` bytes up to its last.
-fn after_header(span: Span, so: TrafSo, h: Header, n: u64) -> TrafStep
-    ensures { (id : ℕ) (f : Flow) → view_traf f result ≡ after_header (traf_boxes id span) wrap_traf so n h f }
-{
-    let track = so.track;
-    let end = span.end;
-    let flaw = box_flaw(end, track, h);
-    if flaw != 0 {
-        let x = Refusal {
-            number: flaw,
-            place: h.pos,
-        };
-        return TrafStep::Bad(worse(span, track, x, n));
-    }
-    after_body(span, so, body_begin(h, n), n)
-}
-
-// What a byte of a header answers, in the list.
-fn after_head(span: Span, so: TrafSo, r: HeadStep, n: u64) -> TrafStep
-    ensures { (id : ℕ) (f : Flow) → view_traf f result ≡ after_head (traf_boxes id span) wrap_traf so n (view_head f r) }
-{
-    let HeadStep::Taken(head) = r else {
-        let track = so.track;
-        return TrafStep::Bad(worse(span, track, refused_head(r), n));
-    };
-    match head {
-        HeadSo::Going(h) => TrafStep::Go(TrafBoxes::Head(so, h)),
-        HeadSo::Read(h) => after_header(span, so, h, n),
+    #[tactic(auto, using(lists::proofs::Laws::skipped), unfolding(state::specs::Traf::step_traf_body))]
+    fn body(
+        &self,
+        so: TrafSo,
+        s: TrafBody,
+        n: u64,
+        b: u8,
+    ) -> Result<Step<TrafBody, Given>, Refusal> {
+        match s {
+            TrafBody::Skip { stop } => Ok(skip_to(stop, n + 1, s, Given::Nothing)),
+            TrafBody::Rest { stop, reference } => Ok(skip_to(
+                stop,
+                n + 1,
+                s,
+                Given::Headed(reference),
+            )),
+            TrafBody::Field { part, more, acc } => field_byte(
+                self.id, so.track, part, more, acc, n, b,
+            ),
+        }
     }
 }
 
 // One byte of the boxes of a `traf`; `id` is the top index's reference ID, and `n` bytes stand before the byte.
-pub fn traf_byte(id: u64, span: Span, s: TrafBoxes, n: u64, b: u8) -> TrafStep
+#[tactic(auto, using(crate::proofs::Laws::listed, crate::proofs::Laws::list_within))]
+pub fn traf_byte(
+    id: u64,
+    span: Span,
+    s: TrafBoxes,
+    n: u64,
+    b: u8,
+) -> Result<Step<TrafBoxes, Seen>, Refusal>
     requires { Within (traf_bounds s) × (n < limit) }
-    ensures { (f : Flow) → view_traf f result ≡ step_traf id span s f n b }
+    ensures { (f : Flow) → view f result ≡ step_traf id span s f n b }
 {
-    match s {
-        TrafBoxes::Head(so, h) => {
-            let r = head_byte(span.end, h, n, b);
-            after_head(span, so, r, n + 1)
-        }
-        TrafBoxes::Body(so, body) => {
-            let track = so.track;
-            let r = body_byte(id, track, body, n, b);
-            after_body(span, so, r, n + 1)
-        }
-    }
+    list_byte(&TrafList { id, span }, s, n, b)
 }
 
 // A `traf` begins after its header, and may end at once; `n` bytes up to the header's last.
-pub fn traf_begin(span: Span, seen: Seen, n: u64) -> TrafStep
-    ensures { (id : ℕ) (f : Flow) → view_traf f result ≡ begin_traf_boxes id span seen f n }
+pub fn traf_begin(span: Span, seen: Seen, n: u64) -> Result<Step<TrafBoxes, Seen>, Refusal>
+    ensures { (id : ℕ) (f : Flow) → view f result ≡ begin_traf_boxes id span seen f n }
 {
-    go_on(
-        span,
-        TrafSo {
-            track: TrafPhase::Fresh,
-            seen,
-        },
-        n,
-    )
+    let so = TrafSo {
+        track: TrafPhase::Fresh,
+        seen,
+    };
+    next_box(after_box(span, lack(so.track), so, seen, n))
 }

@@ -1,18 +1,15 @@
 -- What the answer of a header, a leaf, an index or an entry makes of the descent's reading of entries.
-use Prim.Native.Nat.{ℕ, zero, suc, ◌+◌, ◌-◌, ◌*◌, ◌≤◌, ◌<◌, ◌/◌, ◌%◌}
+use Prim.Native.Nat.{ℕ, suc, ◌+◌, ◌-◌, ◌*◌, ◌≤◌, ◌<◌}
 use mathlib.Core.Path.{◌≡◌, refl, ap, sym, subst, ◌∙◌}
-use mathlib.Core.List.{List, [], ◌∷◌}
-use mathlib.Core.Bool.{Bool, true, false, ◌||◌}
+use mathlib.Core.List.{List}
+use mathlib.Core.Bool.{Bool, true, false}
 use mathlib.Core.Logic.{◌⊎◌, inl, inr, ◌≢◌}
 use native.Mathlib.Omega.{arith}
 use native.Mathlib.Numerals.{add-one}
-use types.Run.{OneOf}
-use denote.Enum.Declared.{tag_of}
-use lib.Dec.{eqb, ltb, leb}
-use lib.ListN.{length, drop, get_or, drop_of_length-le}
+use lib.ListN.{length, drop, drop_of_length-le}
 use lib.Seq.{drop-cons}
-use borrow.Author.Tests.{ltb-true, ltb-false, leb-true, leb-false, eqb-true, eqb-false}
-use Rattle.basics.specs.Choose.{pick}
+use Rattle.fields.specs.declared.Halt.{Halt}
+use Rattle.std.specs.Prelude.{Result, Ok, Err}
 use Rattle.basics.proofs.Picks.{lt_or_ge}
 use Rattle.machine.specs.Faults.{refusal, shows, unless, lowest}
 use Rattle.machine.specs.Run.{Res, okay, fail, cut, either, after}
@@ -27,33 +24,24 @@ use Rattle.state.specs.declared.IndexRead.{IndexRead}
 use Rattle.state.specs.declared.StoredEntry.{StoredEntry}
 use Rattle.state.specs.Flow.{Flow, Left, left, with_work, listed, level_bytes}
 use Rattle.state.specs.Calls.{flow_of}
-use Rattle.state.specs.Levels.{altered, entry_at, entry_faults, slot_of, took}
-use Rattle.state.specs.Stages.{leaf_record, inner_level}
+use Rattle.state.specs.Levels.{altered, entry_at, slot_of, took}
+use Rattle.state.specs.Stages.{leaf_record}
 use Rattle.segment.specs.Constants.{limit, entry_bytes}
 use Rattle.state.proofs.Phases.{Unaltered, unaltered}
-use Rattle.levels.specs.Views.{read_of}
 use Rattle.descent.specs.Whole.{UnderD, slot_d, read_back_d, entry_part_d, entry_parts_d, under_d}
 use Rattle.descent.specs.Leaf.{leaf_d}
-use Rattle.fields.specs.Onward.{on_head}
-use Rattle.fields.proofs.Answers.{not_first}
-use Rattle.fields.specs.declared.HeadRead.{HeadRead}
-use Rattle.fields.specs.declared.HeadRead.TheVariants as head
-use Rattle.fields.specs.contracts.HeadRead as HeadTags
-use Rattle.walk_leaf.specs.contracts.Walked as WalkedTags
-use Rattle.walk_index.specs.contracts.IndexAnswer as IndexTags
-use Rattle.walk_entries.specs.contracts.Went as WentTags
-use Rattle.walk_leaf.specs.Views.{walked_d, seen_of, LeafFixed, LeafWalked, Refuses}
-use Rattle.walk_leaf.specs.declared.Walked.{Walked}
-use Rattle.walk_leaf.specs.declared.Walked.TheVariants as walked
-use Rattle.walk_leaf.specs.declared.Known.{Known}
-use Rattle.walk_index.specs.Views.{index_d, IndexFixed}
-use Rattle.walk_index.specs.declared.IndexAnswer.{IndexAnswer}
-use Rattle.walk_index.specs.declared.IndexAnswer.TheVariants as answer
-use Rattle.walk_entries.specs.Views.{flow_at, went_d, head_went, leaf_went, index_went, HeadLow, LeafLow, IndexLow, below_d, depth_at, entries_d, reading_at}
+use Rattle.fields.specs.Onward.{halted, on_head}
+use Rattle.walk_leaf.specs.Views.{walked_d, LeafHalt, LeafFixed, LeafWalked}
+use Rattle.walk_index.specs.Parts.{HaltIn}
+use Rattle.walk_index.specs.Views.{IndexAnswer, index_d, IndexFixed}
+use Rattle.walk_entries.specs.Views.{flow_at, Went, went_d, placed_of, HaltLow, below_d, depth_at, entries_d, reading_at}
 use Rattle.walk_entries.specs.Views.{Stands, StandsOn, Carried, Asks, SlotAsks}
 use Rattle.walk_entries.specs.declared.Reached.{Reached}
-use Rattle.walk_entries.specs.declared.Went.{Went}
-use Rattle.walk_entries.specs.declared.Went.TheVariants as went
+use Rattle.std.specs.Result.{IsErrAnd}
+use Rattle.std.proofs.lemmas.Result.{err_from_is_err_and}
+use Rattle.walk_entries.specs.declared.Broken.{Broken}
+use Rattle.walk_entries.specs.declared.Broken.TheVariants as broken
+use Rattle.fields.specs.declared.Halt.TheVariants as halt
 
 abbrev Went' : Type 0
 Went' = Res (Unit {0}) Flow Left
@@ -63,39 +51,28 @@ module _ (base : ℕ) (s : List ℕ) (so : Reached) (work table : List ℕ) wher
   F = flow_at so work table
 
   -- what goes out where a header was not read
-  pub head_out : (shown : Header → Flow → ℕ → List ℕ → Res IndexRead Flow Left) (k : IndexRead → Flow → ℕ → List ℕ → Went') (r : HeadRead) →
-      OneOf (1 ∷ 2 ∷ []) (tag_of HeadTags.the_type r) → went_d base s work table (head_went base so.leaves r) ≡ after (on_head left base s F shown r) k
-  unfolding went_d on_head either
-  head_out shown k (head.Read h) t = not_first refl t
-  head_out shown k (head.Bad x) t = refl
-  head_out shown k head.Ended t = refl
+  pub head_out : (shown : Header → Flow → ℕ → List ℕ → Res IndexRead Flow Left) (k : IndexRead → Flow → ℕ → List ℕ → Went') (x : Halt) →
+      went_d base s work table (Err (placed_of base so.leaves x)) ≡ after (on_head left base s F shown (Err x)) k
+  unfolding went_d on_head halted either
+  head_out shown k (halt.Bad x) = refl
+  head_out shown k halt.Ended = refl
 
   -- where a leaf was not read
-  pub leaf_out : (end : ℕ) (k : Seen → Flow → ℕ → List ℕ → Went') (r : Walked) → OneOf (1 ∷ 2 ∷ []) (tag_of WalkedTags.the_type r) →
-      went_d base s work table (leaf_went base so.leaves r) ≡ after (walked_d seen_of base s end F r) k
-  unfolding went_d walked_d either
-  leaf_out end k (walked.Over x) t = not_first refl t
-  leaf_out end k (walked.Bad x) t = refl
-  leaf_out end k walked.Ended t = refl
-
-  pub full_out : (end : ℕ) (k : Seen → Flow → ℕ → List ℕ → Went') (r : Walked) → Refuses r →
-      went_d base s work table (leaf_went base so.leaves r) ≡ after (walked_d seen_of base s end F r) k
-  unfolding went_d walked_d either
-  full_out end k (walked.Over x) t = absurd t
-  full_out end k (walked.Bad x) t = refl
-  full_out end k walked.Ended t = refl
+  pub leaf_out : (end : ℕ) (k : Seen → Flow → ℕ → List ℕ → Went') (x : Halt) → went_d base s work table (Err (placed_of base so.leaves x)) ≡ after (walked_d base s end F (Err x)) k
+  unfolding went_d walked_d halted either
+  leaf_out end k (halt.Bad x) = refl
+  leaf_out end k halt.Ended = refl
 
   -- where an index was not read
-  pub index_out : (end : ℕ) (work' : List ℕ) (k : IndexRead → Flow → ℕ → List ℕ → Went') (r : IndexAnswer) → OneOf (1 ∷ 2 ∷ []) (tag_of IndexTags.the_type r) →
-      went_d base s work' table (index_went base so.leaves r) ≡ after (index_d base s end (with_work F work') r) k
-  unfolding went_d index_d either
-  index_out end work' k (answer.Read x) t = not_first refl t
-  index_out end work' k (answer.Bad x) t = refl
-  index_out end work' k answer.Ended t = refl
+  pub index_out : (end : ℕ) (work' : List ℕ) (k : IndexRead → Flow → ℕ → List ℕ → Went') (x : Halt) →
+      went_d base s work' table (Err (placed_of base so.leaves x)) ≡ after (index_d base s end (with_work F work') (Err x)) k
+  unfolding went_d index_d halted either
+  index_out end work' k (halt.Bad x) = refl
+  index_out end work' k halt.Ended = refl
 
 -- A leaf entry.
-module _ (base : ℕ) (s : List ℕ) (so : Reached) (work table : List ℕ) (slot : Slot) (inner : UnderD) (top : Top) (depth end n : ℕ) (bs : List ℕ) (r : Walked)
-    (read : walked_d seen_of base s end (flow_at so work table) r ≡ leaf_d top.id slot (flow_at so work table) n bs) where
+module _ (base : ℕ) (s : List ℕ) (so : Reached) (work table : List ℕ) (slot : Slot) (inner : UnderD) (top : Top) (depth end n : ℕ) (bs : List ℕ) (r : Result Seen Halt)
+    (read : walked_d base s end (flow_at so work table) r ≡ leaf_d top.id slot (flow_at so work table) n bs) where
   -- its record is put, and the time line goes on to its end
   abbrev give : Seen → Flow → ℕ → List ℕ → Went'
   give seen g m cs = okay tt (listed g (leaf_record slot g.now seen.first) slot.until seen.last) m cs
@@ -104,9 +81,9 @@ module _ (base : ℕ) (s : List ℕ) (so : Reached) (work table : List ℕ) (slo
   Slot' = slot_d inner top depth false slot (flow_at so work table) n bs
 
   -- it is listed
-  pub leaf_on : (k : Known) → r ≡ walked.Over k → slot.end ≡ base + end →
+  pub leaf_on : (k : Seen) → r ≡ Ok k → slot.end ≡ base + end →
       went_d base s work (put_record table so.leaves (leaf_record slot so.now k.first))
-      (went.On (record { n = slot.end; now = slot.until; leaves = so.leaves + 1; last = k.last })) ≡ Slot'
+      (Ok (record { n = slot.end; now = slot.until; leaves = so.leaves + 1; last = k.last })) ≡ Slot'
   unfolding went_d walked_d slot_d listed either
   leaf_on k is ends =
       let there : base + end ≡ slot.end = sym ends in
@@ -115,23 +92,22 @@ module _ (base : ℕ) (s : List ℕ) (so : Reached) (work table : List ℕ) (slo
       ap (λ (v : ℕ). okay tt (flow_of v slot.until k.last work table') slot.end (drop (slot.end - base) s)) (add-one so.leaves)
       ∙ ap (λ (d : ℕ). okay tt (flow_of (suc so.leaves) slot.until k.last work table') slot.end (drop d s)) (sym far)
       ∙ ap (λ (m : ℕ). okay tt (flow_of (suc so.leaves) slot.until k.last work table') m (drop end s)) ends
-      ∙ ap (λ (w : Walked). after (walked_d seen_of base s end (flow_at so work table) w) give) (sym is)
+      ∙ ap (λ (w : Result Seen Halt). after (walked_d base s end (flow_at so work table) w) give) (sym is)
       ∙ ap (λ (x : Res Seen Flow Left). after x give) read
 
   -- it is not read
-  pub leaf_off : OneOf (1 ∷ 2 ∷ []) (tag_of WalkedTags.the_type r) → went_d base s work table (leaf_went base so.leaves r) ≡ Slot'
+  pub leaf_off : (x : Halt) → r ≡ Err x → went_d base s work table (Err (placed_of base so.leaves x)) ≡ Slot'
   unfolding slot_d
-  leaf_off t = leaf_out base s so work table end give r t ∙ ap (λ (x : Res Seen Flow Left). after x give) read
-
-  pub leaf_full : Refuses r → went_d base s work table (leaf_went base so.leaves r) ≡ Slot'
-  unfolding slot_d
-  leaf_full t = full_out base s so work table end give r t ∙ ap (λ (x : Res Seen Flow Left). after x give) read
+  leaf_off x q =
+      leaf_out base s so work table end give x
+      ∙ ap (λ (w : Result Seen Halt). after (walked_d base s end (flow_at so work table) w) give) (sym q)
+      ∙ ap (λ (x : Res Seen Flow Left). after x give) read
 
 -- what the leaf's walk says of the entry
-module _ (base : ℕ) (s : List ℕ) (so : Reached) (slot : Slot) (asks : SlotAsks base s slot so) (full : Bool) (id at end : ℕ) (r : Walked)
+module _ (base : ℕ) (s : List ℕ) (so : Reached) (slot : Slot) (asks : SlotAsks base s slot so) (full : Bool) (id at end : ℕ) (r : Result Seen Halt)
     (walk : LeafWalked s full id at end so.last r) (from : at ≡ slot.pos - base) (to : end ≡ slot.end - base) where
   pub leaf_read : (work table : List ℕ) → no_room so.leaves table ≡ full → (top : Top) → top.id ≡ id →
-      walked_d seen_of base s end (flow_at so work table) r ≡ leaf_d top.id slot (flow_at so work table) so.n (drop (so.n - base) s)
+      walked_d base s end (flow_at so work table) r ≡ leaf_d top.id slot (flow_at so work table) so.n (drop (so.n - base) s)
   leaf_read work table room top is =
       let stands = asks.stands in
       let pos : slot.pos ≡ base + at = omega arith in
@@ -145,41 +121,27 @@ module _ (base : ℕ) (s : List ℕ) (so : Reached) (slot : Slot) (asks : SlotAs
       ∙ ap (λ (m : ℕ). leaf_d m slot f so.n (drop (so.n - base) s)) (sym is)
 
 -- where a refusal's place and byte lie
-pub leaf_low : (s : List ℕ) (end : ℕ) (r : Walked) → end ≤ limit → LeafFixed s end r → LeafLow r
-leaf_low s end (walked.Over k) h f = tt
-leaf_low s end (walked.Bad x) h f = (omega (arith, f.1), omega (arith, f.2))
-leaf_low s end walked.Ended h f = tt
+pub leaf_low : (end : ℕ) (x : Halt) → end ≤ limit → LeafHalt end x → HaltLow x
+leaf_low end (halt.Bad x) h f = (omega (arith, f.1), omega (arith, f.2))
+leaf_low end halt.Ended h f = tt
 
-pub index_low : (s : List ℕ) (end : ℕ) (r : IndexAnswer) → end ≤ limit → IndexFixed s end r → IndexLow r
-index_low s end (answer.Read x) h f = tt
-index_low s end (answer.Bad x) h f = (omega (arith, f.1), omega (arith, f.2))
-index_low s end answer.Ended h f = tt
+pub leaf_halt : (s : List ℕ) (end : ℕ) {r : Result Seen Halt} {x : Halt} → r ≡ Err x → LeafFixed s end r → LeafHalt end x
+leaf_halt s end e f = subst (λ (w : Result Seen Halt). LeafFixed s end w) e f
 
--- what goes out leads nowhere
-module _ (base : ℕ) (s : List ℕ) (end until leaves : ℕ) where
-  pub leaf_nowhere : (r : Walked) → StandsOn base s end until (leaf_went base leaves r)
-  leaf_nowhere (walked.Over k) = tt
-  leaf_nowhere (walked.Bad x) = tt
-  leaf_nowhere walked.Ended = tt
+pub index_low : (end : ℕ) (x : Halt) → end ≤ limit → HaltIn end x → HaltLow x
+index_low end (halt.Bad x) h f = (omega (arith, f.1), omega (arith, f.2))
+index_low end halt.Ended h f = tt
 
-  pub index_nowhere : (r : IndexAnswer) → StandsOn base s end until (index_went base leaves r)
-  index_nowhere (answer.Read x) = tt
-  index_nowhere (answer.Bad x) = tt
-  index_nowhere answer.Ended = tt
+pub index_halt : (s : List ℕ) (end : ℕ) {r : IndexAnswer} {x : Halt} → r ≡ Err x → IndexFixed s end r → HaltIn end x
+index_halt s end e f = subst (λ (w : IndexAnswer). IndexFixed s end w) e f
 
-  pub head_nowhere : (r : HeadRead) → StandsOn base s end until (head_went base leaves r)
-  head_nowhere (head.Read h) = tt
-  head_nowhere (head.Bad x) = tt
-  head_nowhere head.Ended = tt
-
--- an answer that another one equals
-pub carried_as : {base : ℕ} {s : List ℕ} {end until : ℕ} {work table work' table' : List ℕ} {r q : Went} {reading : Went'} → q ≡ r →
-    Carried base s end until work table work' table' r reading → Carried base s end until work table work' table' q reading
-carried_as e c = rw e c
+-- what `?` hands on
+pub handed : {T : Type 0} {r : Result T Broken} {x : Broken} → IsErrAnd r (λ y. y ≡ x) → r ≡ Err x
+handed {T} {r} {x} h = let p = err_from_is_err_and r h in p.1 ∙ ap (λ (y : Broken). Err y) p.2
 
 -- the bytes of a leaf that was read are there
-pub leaf_there : (s : List ℕ) (end : ℕ) (r : Walked) (k : Known) → r ≡ walked.Over k → LeafFixed s end r → end ≤ length s
-leaf_there s end r k e f = (subst (λ (w : Walked). LeafFixed s end w) e f).2
+pub leaf_there : (s : List ℕ) (end : ℕ) (r : Result Seen Halt) (k : Seen) → r ≡ Ok k → LeafFixed s end r → end ≤ length s
+leaf_there s end r k e f = (subst (λ (w : Result Seen Halt). LeafFixed s end w) e f).1
 
 -- An entry that is read back.
 module _ (base : ℕ) (s : List ℕ) (so : Reached) (work table : List ℕ) (inner : UnderD) (top : Top) (depth : ℕ) (l : Level) (after-base : base ≤ so.n) where
@@ -190,7 +152,7 @@ module _ (base : ℕ) (s : List ℕ) (so : Reached) (work table : List ℕ) (inn
   Back e = reading_at (read_back_d inner top depth l e) base s so work table
 
   -- the bytes end before it
-  pub entry_ends_lem : so.n ≡ base + length s → went_d base s work table (went.Ended so.leaves) ≡ Part
+  pub entry_ends_lem : so.n ≡ base + length s → went_d base s work table (Err (broken.Ended so.leaves)) ≡ Part
   unfolding went_d entry_part_d
   entry_ends_lem e =
       let d : length s ≤ so.n - base = omega arith in
@@ -207,7 +169,7 @@ module _ (base : ℕ) (s : List ℕ) (so : Reached) (work table : List ℕ) (inn
 
   module _ (e : StoredEntry) where
     pub back_altered : altered l e so.now so.n ≡ true →
-        went_d base s work table (went.Bad (record { number = 12; place = so.n; count = so.n + 1; leaves = so.leaves })) ≡ Back e
+        went_d base s work table (Err (broken.Bad (record { number = 12; place = so.n; count = so.n + 1; leaves = so.leaves }))) ≡ Back e
     unfolding went_d read_back_d unless shows lowest
     back_altered a = rw a (ap (fail (refusal 12 so.n) (left (flow_at so work table))) (add-one so.n))
 
@@ -248,23 +210,15 @@ under_entries levels top l f n bs a b e =
 
 -- what follows an answer that leads nowhere
 module _ (base : ℕ) (s work table : List ℕ) where
-  pub went_off : (k : Unit {0} → Flow → ℕ → List ℕ → Went') (r : Went) → OneOf (1 ∷ 2 ∷ []) (tag_of WentTags.the_type r) →
-      went_d base s work table r ≡ after (went_d base s work table r) k
+  pub went_off : (k : Unit {0} → Flow → ℕ → List ℕ → Went') (x : Broken) → went_d base s work table (Err x) ≡ after (went_d base s work table (Err x)) k
   unfolding went_d either
-  went_off k (went.On so) t = not_first refl t
-  went_off k (went.Bad x) t = refl
-  went_off k (went.Ended n) t = refl
-
-pub went_nowhere : (base : ℕ) (s : List ℕ) (end until : ℕ) (r : Went) → OneOf (1 ∷ 2 ∷ []) (tag_of WentTags.the_type r) → StandsOn base s end until r
-went_nowhere base s end until (went.On so) t = not_first refl t
-went_nowhere base s end until (went.Bad x) t = tt
-went_nowhere base s end until (went.Ended n) t = tt
+  went_off k (broken.Bad x) = refl
+  went_off k (broken.Ended n) = refl
 
 -- within an entry is within its index
 pub stands_wider : (base : ℕ) (s : List ℕ) (end until end' until' : ℕ) (r : Went) → end ≤ end' → until ≤ until' → StandsOn base s end until r → StandsOn base s end' until' r
-stands_wider base s end until end' until' (went.On so) a b h = record { after = h.after; inside = h.inside; within = omega arith; timely = omega arith; few = h.few }
-stands_wider base s end until end' until' (went.Bad x) a b h = tt
-stands_wider base s end until end' until' (went.Ended n) a b h = tt
+stands_wider base s end until end' until' (Ok so) a b h = record { after = h.after; inside = h.inside; within = omega arith; timely = omega arith; few = h.few }
+stands_wider base s end until end' until' (Err x) a b h = tt
 
 -- An entry that stands, by what was read back.
 module _ (left : ℕ) (l : Level) (base : ℕ) (s work : List ℕ) (so : Reached) (asks : Asks left l base s work so) (more : l.next < l.count) (e : StoredEntry)
@@ -332,11 +286,11 @@ module _ (left : ℕ) (top : Top) (l : Level) (base : ℕ) (s : List ℕ) (so : 
   carries = ap (λ (x : Went'). after x others) right ∙ sym (one_to_come left top l (flow_at so work table) so.n (drop (so.n - base) s) more)
 
   -- it leads nowhere
-  pub entry_off : OneOf (1 ∷ 2 ∷ []) (tag_of WentTags.the_type r) → went_d base s work' table' r ≡ reading_at (entries_d left top l) base s so work table
-  entry_off t = went_off base s work' table' others r t ∙ carries
+  pub entry_off : (x : Broken) → r ≡ Err x → went_d base s work' table' (Err x) ≡ reading_at (entries_d left top l) base s so work table
+  entry_off x q = went_off base s work' table' others x ∙ ap (λ (w : Went). after (went_d base s work' table' w) others) (sym q) ∙ carries
 
   -- it is passed
-  pub entry_on : (so' : Reached) → r ≡ went.On so' →
+  pub entry_on : (so' : Reached) → r ≡ Ok so' →
       reading_at (entries_d left top (record { next = l.next + 1; count = l.count; end = l.end; until = l.until })) base s so' work' table'
       ≡ reading_at (entries_d left top l) base s so work table
   unfolding went_d either
@@ -347,12 +301,12 @@ module _ (left : ℕ) (top : Top) (l : Level) (base : ℕ) (s : List ℕ) (so : 
 
 -- none is to come
 pub entries_over : (left : ℕ) (top : Top) (l : Level) (base : ℕ) (s : List ℕ) (so : Reached) (work table : List ℕ) → l.count ≤ l.next →
-    went_d base s work table (went.On so) ≡ reading_at (entries_d left top l) base s so work table
+    went_d base s work table (Ok so) ≡ reading_at (entries_d left top l) base s so work table
 unfolding went_d
 entries_over left top l base s so work table h = sym (none_to_come left top l (flow_at so work table) so.n (drop (so.n - base) s) h)
 
 -- where an answer that goes on stands
-pub stands_on : (base : ℕ) (s : List ℕ) (end until : ℕ) (r : Went) (so : Reached) → r ≡ went.On so → StandsOn base s end until r → Stands base s end until so
+pub stands_on : (base : ℕ) (s : List ℕ) (end until : ℕ) (r : Went) (so : Reached) → r ≡ Ok so → StandsOn base s end until r → Stands base s end until so
 stands_on base s end until r so e h = subst (StandsOn base s end until) e h
 
 -- Between two entries: what is left, read from here, gives what the whole gives.

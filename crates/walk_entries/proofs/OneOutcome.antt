@@ -2,13 +2,13 @@
 use mathlib.Core.Path.{◌≡◌, refl, sym, ap, ◌∙◌}
 use Prim.Native.Nat.{ℕ}
 use mathlib.Core.List.{List}
+use Rattle.std.specs.Prelude.{Ok, Err}
 use Rattle.basics.specs.Outcome.{Coincide, after_call}
 use Rattle.basics.proofs.Outcomes.{left_inverse_equal}
 use Rattle.machine.specs.Run.{Res, okay, fail, cut}
 use Rattle.state.specs.Flow.{Flow, Left}
-use Rattle.walk_entries.specs.Views.{went_d}
-use Rattle.walk_entries.specs.declared.Went.{Went}
-use Rattle.walk_entries.specs.declared.Went.TheVariants as went
+use Rattle.walk_entries.specs.Views.{Went, went_d}
+use Rattle.walk_entries.specs.declared.Broken.TheVariants as broken
 use Rattle.walk_entries.proofs.under.Kinds as under-kinds
 use Rattle.walk_entries.proofs.under.Reads as under_stated
 
@@ -18,15 +18,15 @@ Carries = Went × List ℕ × List ℕ
 
 -- what a reading by structure is a view of
 abbrev seen_went : Res (Unit {0}) Flow Left → Carries
-seen_went (okay u f n bs) = (went.On (record { n = n; now = f.now; leaves = f.leaves; last = f.last }), f.work, f.table)
-seen_went (fail x l n) = (went.Bad (record { number = x.number; place = x.place; count = n; leaves = l.leaves }), l.work, l.table)
-seen_went (cut l n) = (went.Ended l.leaves, l.work, l.table)
+seen_went (okay u f n bs) = (Ok (record { n = n; now = f.now; leaves = f.leaves; last = f.last }), f.work, f.table)
+seen_went (fail x l n) = (Err (broken.Bad (record { number = x.number; place = x.place; count = n; leaves = l.leaves })), l.work, l.table)
+seen_went (cut l n) = (Err (broken.Ended l.leaves), l.work, l.table)
 
 seen_went_lem : (base : ℕ) (s work table : List ℕ) (r : Went) → seen_went (went_d base s work table r) ≡ (r, work, table)
 unfolding went_d
-seen_went_lem base s work table (went.On so) = refl
-seen_went_lem base s work table (went.Bad x) = refl
-seen_went_lem base s work table (went.Ended leaves) = refl
+seen_went_lem base s work table (Ok so) = refl
+seen_went_lem base s work table (Err (broken.Bad x)) = refl
+seen_went_lem base s work table (Err (broken.Ended leaves)) = refl
 
 -- of one index, place, time, bytes and pair of buffers: one answer, and one work area and table after the call, number by number
 pub under_once : Coincide 3 under-kinds.ps under-kinds.r under_stated.Post

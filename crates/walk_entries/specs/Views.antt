@@ -1,5 +1,6 @@
 -- What the code's answers of entries make of a reading by structure; what a walk over entries asks, and what it gives.
-use Rattle.std.specs.Prelude.{ℕ, suc, ◌+◌, ◌-◌, ◌≤◌, ◌<◌, ◌≡◌, List, length, drop}
+use Rattle.fields.specs.declared.Halt.{Halt}
+use Rattle.std.specs.Prelude.{ℕ, suc, ◌+◌, ◌-◌, ◌≤◌, ◌<◌, ◌≡◌, List, length, drop, Result, Ok, Err}
 use Rattle.segment.specs.Constants.{limit, most_entries}
 use Rattle.table.specs.Table.{most_records}
 use Rattle.machine.specs.Faults.{refusal}
@@ -17,26 +18,24 @@ use Rattle.descent.specs.Sidx.{sidx_d}
 use Rattle.descent.specs.Whole.{UnderD, entry_parts_d, under_d}
 use Rattle.fields.specs.Answers.{farthest}
 use Rattle.fields.specs.Onward.{placed}
-use Rattle.fields.specs.declared.Stop.{Stop}
-use Rattle.fields.specs.declared.HeadRead.{HeadRead}
-use Rattle.fields.specs.declared.HeadRead.TheVariants as head
-use Rattle.walk_leaf.specs.declared.Walked.{Walked}
-use Rattle.walk_leaf.specs.declared.Walked.TheVariants as walked
-use Rattle.walk_index.specs.declared.IndexAnswer.{IndexAnswer}
-use Rattle.walk_index.specs.declared.IndexAnswer.TheVariants as answer
 use Rattle.walk_entries.specs.declared.Reached.{Reached}
-use Rattle.walk_entries.specs.declared.Went.{Went}
-use Rattle.walk_entries.specs.declared.Went.TheVariants as went
+use Rattle.walk_entries.specs.declared.Broken.{Broken}
+use Rattle.walk_entries.specs.declared.Broken.TheVariants as broken
+use Rattle.fields.specs.declared.Halt.TheVariants as halt
 
 -- what flows where a walk has come so far, with the two buffers
 abbrev pub flow_at : Reached → List ℕ → List ℕ → Flow
 flow_at so work table = flow_of so.leaves so.now so.last work table
 
+-- how far entries led, or why no further
+abbrev pub Went : Type 0
+Went = Result Reached Broken
+
 -- the entries are passed, one is refused, or the bytes end; a refusal and an end with the leaves listed before
 unfoldable pub went_d : ℕ → List ℕ → List ℕ → List ℕ → Went → Res (Unit {0}) Flow Left
-went_d base s work table (went.On so) = okay tt (flow_at so work table) so.n (drop (so.n - base) s)
-went_d base s work table (went.Bad x) = fail (refusal x.number x.place) (left_of x.leaves work table) x.count
-went_d base s work table (went.Ended leaves) = cut (left_of leaves work table) (base + length s)
+went_d base s work table (Ok so) = okay tt (flow_at so work table) so.n (drop (so.n - base) s)
+went_d base s work table (Err (broken.Bad x)) = fail (refusal x.number x.place) (left_of x.leaves work table) x.count
+went_d base s work table (Err (broken.Ended leaves)) = cut (left_of leaves work table) (base + length s)
 
 -- where a walk stands: within the bytes, and within what ends at the place `end` and at the time `until`
 pub record Stands (base : ℕ) (s : List ℕ) (end until : ℕ) (so : Reached) : Type 0 where
@@ -47,9 +46,8 @@ pub record Stands (base : ℕ) (s : List ℕ) (end until : ℕ) (so : Reached) :
   pub few : so.leaves ≤ most_records
 
 abbrev pub StandsOn : ℕ → List ℕ → ℕ → ℕ → Went → Type 0
-StandsOn base s end until (went.On so) = Stands base s end until so
-StandsOn base s end until (went.Bad x) = Unit {0}
-StandsOn base s end until (went.Ended leaves) = Unit {0}
+StandsOn base s end until (Ok so) = Stands base s end until so
+StandsOn base s end until (Err x) = Unit {0}
 
 -- What a walk over what ends at `end` and `until` gives: the answer and both buffers are those of a reading by structure.
 pub record Carried (base : ℕ) (s : List ℕ) (end until : ℕ) (work table work' table' : List ℕ) (r : Went) (reading : Res (Unit {0}) Flow Left) : Type 0 where
@@ -108,40 +106,12 @@ inner_body_at left top slot base s h so work table =
 abbrev pub reading_at : (Flow → ℕ → List ℕ → Res (Unit {0}) Flow Left) → ℕ → List ℕ → Reached → List ℕ → List ℕ → Res (Unit {0}) Flow Left
 reading_at d base s so work table = d (flow_at so work table) so.n (drop (so.n - base) s)
 
--- A fault at its place in the segment, after so many leaves; and what goes out where a header, a leaf or an index was not read.
-abbrev pub placed_of : ℕ → ℕ → Stop → Went
-placed_of base leaves x = went.Bad (record { number = x.number; place = base + x.place; count = base + x.count; leaves = leaves })
-
-abbrev pub head_went : ℕ → ℕ → HeadRead → Went
-head_went base leaves (head.Read h) = went.Ended leaves
-head_went base leaves (head.Bad x) = placed_of base leaves x
-head_went base leaves head.Ended = went.Ended leaves
-
-abbrev pub leaf_went : ℕ → ℕ → Walked → Went
-leaf_went base leaves (walked.Over k) = went.Ended leaves
-leaf_went base leaves (walked.Bad x) = placed_of base leaves x
-leaf_went base leaves walked.Ended = went.Ended leaves
-
-abbrev pub index_went : ℕ → ℕ → IndexAnswer → Went
-index_went base leaves (answer.Read x) = went.Ended leaves
-index_went base leaves (answer.Bad x) = placed_of base leaves x
-index_went base leaves answer.Ended = went.Ended leaves
+-- Why a header, a leaf or an index was not read, at its place in the segment, after so many leaves.
+abbrev pub placed_of : ℕ → ℕ → Halt → Broken
+placed_of base leaves (halt.Bad x) = broken.Bad (record { number = x.number; place = base + x.place; count = base + x.count; leaves = leaves })
+placed_of base leaves halt.Ended = broken.Ended leaves
 
 -- a fault whose place is within the limit, and whose byte is no farther than a position may be
-abbrev pub Low : Stop → Type 0
-Low x = (x.place ≤ limit) × (x.count ≤ farthest)
-
-abbrev pub HeadLow : HeadRead → Type 0
-HeadLow (head.Read h) = Unit {0}
-HeadLow (head.Bad x) = Low x
-HeadLow head.Ended = Unit {0}
-
-abbrev pub LeafLow : Walked → Type 0
-LeafLow (walked.Over k) = Unit {0}
-LeafLow (walked.Bad x) = Low x
-LeafLow walked.Ended = Unit {0}
-
-abbrev pub IndexLow : IndexAnswer → Type 0
-IndexLow (answer.Read x) = Unit {0}
-IndexLow (answer.Bad x) = Low x
-IndexLow answer.Ended = Unit {0}
+abbrev pub HaltLow : Halt → Type 0
+HaltLow (halt.Bad x) = (x.place ≤ limit) × (x.count ≤ farthest)
+HaltLow halt.Ended = Unit {0}

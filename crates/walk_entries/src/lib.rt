@@ -9,20 +9,20 @@ ghost use Rattle.state.specs.Levels as defs;
 ghost use Rattle.levels.specs.Views.{read_of};
 ghost use Rattle.segment.specs.Constants.{entry_bytes};
 ghost use Rattle.descent.specs.Whole.{UnderD, slot_d, entry_part_d};
-ghost use Rattle.walk_entries.specs.Views.{Low, HeadLow, LeafLow, IndexLow, placed_of, head_went, leaf_went, index_went, Asks, SlotAsks, Heads};
+ghost use Rattle.walk_entries.specs.Views.{HaltLow, placed_of, Asks, SlotAsks, Heads};
 ghost use Rattle.walk_entries.specs.Views.{Carried, depth_at, below_d, entries_d, inner_body_at, reading_at};
 
-use fields::{HeadRead, Stop, stop_at};
+use fields::{Halt, Stop, stop_at};
 use flaws::{inner_kind_flaw, top_flaw};
 use index::Where;
-use levels::{EntryRead, entry_answer, entry_at};
+use levels::{entry_answer, entry_at};
 use machine::Header;
 use reader::quick_head;
 use records::{no_room, put_record};
 use state::{ENTRY_BYTES, LEVEL_BYTES, Level, Slot, Top};
 use table::Record;
-use walk_index::{IndexAnswer, index_walk};
-use walk_leaf::{Walked, full_leaf, leaf_walk};
+use walk_index::index_walk;
+use walk_leaf::{full_leaf, leaf_walk};
 
 // The most levels of indexes, with the top one.
 const LEVELS: u64 = 4;
@@ -36,64 +36,33 @@ pub struct Reached {
     pub last: u64,
 }
 
-// The answer of an entry, and of all entries of an index: how far they led; a refusal, with the leaves listed; or that the bytes end, and
-// how many leaves were listed.
+// Why entries lead no further: the bytes end after so many leaves, or a fault shows.
 #[derive(Clone, Copy)]
-pub enum Went {
-    On(Reached),
-    Bad(Stop),
+pub enum Broken {
     Ended(u64),
+    Bad(Stop),
 }
 
-// A fault at its place in the segment, after so many leaves.
-fn placed(base: u64, leaves: u64, x: Stop) -> Went
-    requires { (base ≤ limit) × Low x }
+// Why a header, a leaf or an index was not read, at its place in the segment, after so many leaves.
+// Its three callers take a `match`, not `map_err` with `?` (tried, in `leaf_entry`): the proof did not close, since the contract inferred for
+// a closure around this call does not give its answer as an equation.
+fn placed(base: u64, leaves: u64, x: Halt) -> Broken
+    requires { (base ≤ limit) × HaltLow x }
     ensures { result ≡ placed_of base leaves x }
 {
-    Went::Bad(Stop {
-        number: x.number,
-        place: base + x.place,
-        count: base + x.count,
-        leaves,
-    })
-}
-
-// What goes out where a header, a leaf or an index was not read.
-fn head_went(base: u64, leaves: u64, r: HeadRead) -> Went
-    requires { (base ≤ limit) × HeadLow r }
-    ensures { result ≡ head_went base leaves r }
-{
-    match r {
-        HeadRead::Read(_) => Went::Ended(leaves),
-        HeadRead::Bad(x) => placed(base, leaves, x),
-        HeadRead::Ended => Went::Ended(leaves),
-    }
-}
-
-fn leaf_went(base: u64, leaves: u64, r: Walked) -> Went
-    requires { (base ≤ limit) × LeafLow r }
-    ensures { result ≡ leaf_went base leaves r }
-{
-    match r {
-        Walked::Over(_) => Went::Ended(leaves),
-        Walked::Bad(x) => placed(base, leaves, x),
-        Walked::Ended => Went::Ended(leaves),
-    }
-}
-
-fn index_went(base: u64, leaves: u64, r: IndexAnswer) -> Went
-    requires { (base ≤ limit) × IndexLow r }
-    ensures { result ≡ index_went base leaves r }
-{
-    match r {
-        IndexAnswer::Read(_) => Went::Ended(leaves),
-        IndexAnswer::Bad(x) => placed(base, leaves, x),
-        IndexAnswer::Ended => Went::Ended(leaves),
+    match x {
+        Halt::Ended => Broken::Ended(leaves),
+        Halt::Bad(x) => Broken::Bad(Stop {
+            number: x.number,
+            place: base + x.place,
+            count: base + x.count,
+            leaves,
+        }),
     }
 }
 
 // The next entry of an index, read back from its level's part of the work area.
-fn read_back(work: &[u8], left: u64, l: Level, so: Reached) -> EntryRead
+fn read_back(work: &[u8], left: u64, l: Level, so: Reached) -> Option<(bool, Slot)>
     requires { (1 ≤ left) × (left ≤ 4) × (l.next < l.count) × (l.count ≤ most_entries) × (so.now ≤ l.until) × (so.n ≤ limit) × (work_bytes ≤ length work.now) }
     ensures { result ≡ read_of l (defs.entry_at work.now (level_bytes * (depth_at left - 1) + entry_bytes * l.next)) so.now so.n }
 {
@@ -102,7 +71,14 @@ fn read_back(work: &[u8], left: u64, l: Level, so: Reached) -> EntryRead
 }
 
 // A leaf entry: its boxes, and its record.
-fn leaf_entry(id: u64, slot: Slot, bytes: &[u8], base: u64, so: Reached, table: &mut [u64]) -> Went
+fn leaf_entry(
+    id: u64,
+    slot: Slot,
+    bytes: &[u8],
+    base: u64,
+    so: Reached,
+    table: &mut [u64],
+) -> Result<Reached, Broken>
     requires { SlotAsks base bytes.now slot so }
     ensures { (top : Top) (depth : ℕ) (inner : UnderD) (work : List ℕ) → top.id ≡ id →
         Carried base bytes.now slot.end slot.until work table.old work table.new result
@@ -111,30 +87,31 @@ fn leaf_entry(id: u64, slot: Slot, bytes: &[u8], base: u64, so: Reached, table: 
     let at = (slot.pos - base) as usize;
     let end = (slot.end - base) as usize;
     if no_room(so.leaves, table.len()) {
-        return leaf_went(base, so.leaves, full_leaf(bytes, at, end));
+        return Err(placed(base, so.leaves, full_leaf(bytes, at, end)));
     }
-    let leaf = leaf_walk(id, bytes, at, end, so.last);
-    let Walked::Over(seen) = leaf else {
-        return leaf_went(base, so.leaves, leaf);
-    };
-    put_record(
-        table,
-        so.leaves,
-        Record {
-            position: slot.pos,
-            size: slot.end - slot.pos,
-            start: so.now,
-            duration: slot.until - so.now,
-            sap: slot.sap,
-            time: seen.first,
-        },
-    );
-    Went::On(Reached {
-        n: slot.end,
-        now: slot.until,
-        leaves: so.leaves + 1,
-        last: seen.last,
-    })
+    match leaf_walk(id, bytes, at, end, so.last) {
+        Err(x) => Err(placed(base, so.leaves, x)),
+        Ok(seen) => {
+            put_record(
+                table,
+                so.leaves,
+                Record {
+                    position: slot.pos,
+                    size: slot.end - slot.pos,
+                    start: so.now,
+                    duration: slot.until - so.now,
+                    sap: slot.sap,
+                    time: seen.first,
+                },
+            );
+            Ok(Reached {
+                n: slot.end,
+                now: slot.until,
+                leaves: so.leaves + 1,
+                last: seen.last,
+            })
+        }
+    }
 }
 
 // The body of an inner index, which fills its entry, and, with one level less, all that it indexes.
@@ -149,7 +126,7 @@ fn inner_body(
     so: Reached,
     work: &mut [u8],
     table: &mut [u64],
-) -> Went
+) -> Result<Reached, Broken>
     requires { SlotAsks base bytes.now slot so × (2 ≤ left) × (left ≤ 4) × (work_bytes ≤ length work.old) × Heads base bytes.now slot h }
     ensures { Carried base bytes.now slot.end slot.until work.old table.old work.new table.new result
         (inner_body_at left top slot base bytes.now h so work.old table.old) }
@@ -165,22 +142,24 @@ fn inner_body(
         end,
         work,
     );
-    let IndexAnswer::Read(x) = index else {
-        return index_went(base, so.leaves, index);
-    };
-    let inside = Reached {
-        n: base + (end as u64),
-        now: so.now,
-        leaves: so.leaves,
-        last: so.last,
-    };
-    let l = Level {
-        next: 0,
-        count: x.count,
-        end: slot.end,
-        until: slot.until,
-    };
-    under(left - 1, top, l, bytes, base, inside, work, table)
+    match index {
+        Err(x) => Err(placed(base, so.leaves, x)),
+        Ok(x) => {
+            let inside = Reached {
+                n: base + (end as u64),
+                now: so.now,
+                leaves: so.leaves,
+                last: so.last,
+            };
+            let l = Level {
+                next: 0,
+                count: x.count,
+                end: slot.end,
+                until: slot.until,
+            };
+            under(left - 1, top, l, bytes, base, inside, work, table)
+        }
+    }
 }
 
 // An index entry: its first box is an inner index.
@@ -194,22 +173,23 @@ fn inner_entry(
     so: Reached,
     work: &mut [u8],
     table: &mut [u64],
-) -> Went
+) -> Result<Reached, Broken>
     requires { SlotAsks base bytes.now slot so × (1 ≤ left) × (left ≤ 4) × (work_bytes ≤ length work.old) }
     ensures { Carried base bytes.now slot.end slot.until work.old table.old work.new table.new result
         (reading_at (slot_d (below_d left top) top (depth_at left) true slot) base bytes.now so work.old table.old) }
 {
     let at = (slot.pos - base) as usize;
     let end = (slot.end - base) as usize;
-    let head = quick_head(bytes, at, end);
-    let HeadRead::Read(h) = head else {
-        return head_went(base, so.leaves, head);
-    };
-    let flaw = top_flaw(h, inner_kind_flaw(5 - left, h.kind));
-    if flaw != 0 {
-        return placed(base, so.leaves, stop_at(flaw, at, at + (h.head as usize)));
+    match quick_head(bytes, at, end) {
+        Err(x) => Err(placed(base, so.leaves, x)),
+        Ok(h) => match top_flaw(h, inner_kind_flaw(5 - left, h.kind)) {
+            Some(flaw) => {
+                let stop = stop_at(flaw, at, at + (h.head as usize));
+                Err(placed(base, so.leaves, Halt::Bad(stop)))
+            }
+            None => inner_body(left, top, slot, h, bytes, base, so, work, table),
+        },
     }
-    inner_body(left, top, slot, h, bytes, base, so, work, table)
 }
 
 // One entry: it is read back when its first byte is there.
@@ -223,22 +203,21 @@ fn entry_walk(
     so: Reached,
     work: &mut [u8],
     table: &mut [u64],
-) -> Went
+) -> Result<Reached, Broken>
     requires { Asks left l base bytes.now work.old so × (l.next < l.count) }
     ensures { Carried base bytes.now l.end l.until work.old table.old work.new table.new result
         (reading_at (entry_part_d (below_d left top) top (depth_at left) l) base bytes.now so work.old table.old) }
 {
     if so.n == base + (bytes.len() as u64) {
-        return Went::Ended(so.leaves);
+        return Err(Broken::Ended(so.leaves));
     }
-    let entry = read_back(work, left, l, so);
-    let EntryRead::Stands(inner, slot) = entry else {
-        return Went::Bad(Stop {
+    let Some((inner, slot)) = read_back(work, left, l, so) else {
+        return Err(Broken::Bad(Stop {
             number: 12,
             place: so.n,
             count: so.n + 1,
             leaves: so.leaves,
-        });
+        }));
     };
     if inner {
         return inner_entry(left, top, slot, bytes, base, so, work, table);
@@ -257,7 +236,7 @@ pub fn under(
     from: Reached,
     work: &mut [u8],
     table: &mut [u64],
-) -> Went
+) -> Result<Reached, Broken>
     requires { Asks left level base bytes.now work.old from }
     ensures { Carried base bytes.now level.end level.until work.old table.old work.new table.new result
         (reading_at (entries_d left top level) base bytes.now from work.old table.old) }
@@ -265,12 +244,8 @@ pub fn under(
     let mut l = level;
     let mut so = from;
     while l.next < l.count {
-        let entry = entry_walk(left, top, l, bytes, base, so, work, table);
-        let Went::On(reached) = entry else {
-            return entry;
-        };
-        so = reached;
+        so = entry_walk(left, top, l, bytes, base, so, work, table)?;
         l.next += 1;
     }
-    Went::On(so)
+    Ok(so)
 }

@@ -8,6 +8,8 @@ use native.Mathlib.Omega.{arith}
 use lib.Dec.{eqb, ltb}
 use lib.ListN.{length}
 use borrow.Author.Tests.{lt-ltb, le-ltb, ltb-false, eq-eqb, ne_eqb, eqb-false}
+use Rattle.std.specs.Prelude.{Some, None}
+use Rattle.basics.specs.Choose.{pick}
 use Rattle.basics.proofs.Picks.{lt_or_ge, pick_yes}
 use Rattle.segment.specs.Constants.{entry_bytes, most_entries}
 use Rattle.machine.specs.Faults.{refusal, shows, lowest, unless}
@@ -21,10 +23,8 @@ use Rattle.state.specs.Sidx.{Place, topmost, under, wide_more}
 use Rattle.state.specs.Sidx.{sidx_version_faults, id_faults, scale_faults, time_faults, offset_faults, count_faults}
 use Rattle.index.proofs.Laws.{first_lower, second_lower}
 use Rattle.descent.specs.Sidx.{counted_d, count_d, reserved_d, offset_d, time_d, scale_d, id_d, flags_d, version_d}
-use Rattle.fields.specs.Answers.{field_at, stop_at}
+use Rattle.fields.specs.Answers.{field_at, stop_at, FieldRead}
 use Rattle.fields.specs.Onward.{stopped, ended, from, on_field}
-use Rattle.fields.specs.declared.FieldRead.{FieldRead}
-use Rattle.fields.specs.declared.FieldRead.TheVariants as field
 use Rattle.fields.proofs.Descents.{field_descent, field_there, field_ends_lem}
 use Rattle.walk_index.specs.Parts.{span_at, wanted_of, draft}
 
@@ -33,11 +33,11 @@ Res' = Res IndexRead Flow Left
 
 -- A field at a position, by the code's answer.
 module _ (base : ℕ) (s : List ℕ) (f : Flow) (k : ℕ → Flow → ℕ → List ℕ → Res') (w at : ℕ) {r : FieldRead} (e : r ≡ field_at s at w) where
-  pub read_in : {v next : ℕ} → at ≤ length s → r ≡ field.Read v next → from left base s f (field_d left plain k w 0) at ≡ from left base s f (k v) next
+  pub read_in : {v next : ℕ} → at ≤ length s → r ≡ Some (v, next) → from left base s f (field_d left plain k w 0) at ≡ from left base s f (k v) next
   unfolding on_field
   read_in here g = field_descent left base s f k w at here ∙ ap (on_field left base s f k) (sym e ∙ g)
 
-  pub read_out : at ≤ length s → r ≡ field.Ended → from left base s f (field_d left plain k w 0) at ≡ ended left base s f
+  pub read_out : at ≤ length s → r ≡ None → from left base s f (field_d left plain k w 0) at ≡ ended left base s f
   unfolding on_field
   read_out here g = field_descent left base s f k w at here ∙ ap (on_field left base s f k) (sym e ∙ g)
 
@@ -56,11 +56,11 @@ module _ (base : ℕ) (s : List ℕ) (f : Flow) (k : ℕ → Flow → ℕ → Li
             let inside : at ≤ length s = omega arith in
             field_there left base s f j m a here h ∙ rw there (same _ ∙ field_descent left base s f k w at inside)
 
-    pub past_in : {v next : ℕ} → r ≡ field.Read v next → from left base s f (field_d left plain j m 0) a ≡ from left base s f (k v) next
+    pub past_in : {v next : ℕ} → r ≡ Some (v, next) → from left base s f (field_d left plain j m 0) a ≡ from left base s f (k v) next
     unfolding on_field
     past_in g = past ∙ ap (on_field left base s f k) (sym e ∙ g)
 
-    pub past_out : r ≡ field.Ended → from left base s f (field_d left plain j m 0) a ≡ ended left base s f
+    pub past_out : r ≡ None → from left base s f (field_d left plain j m 0) a ≡ ended left base s f
     unfolding on_field
     past_out g = past ∙ ap (on_field left base s f k) (sym e ∙ g)
 
@@ -103,7 +103,7 @@ scale_tests topmost span v worse x = refl
 scale_tests (under top slot around) span v worse x = first_lower (eqb v 0) (not (eqb v top.scale)) 11 12 span.pos worse x (omega arith)
 
 -- where the bytes end before a number that others are passed over before
-module _ (p : Place) (span : Span) (base : ℕ) (s : List ℕ) (f : Flow) (d : Draft) (at a : ℕ) {r : FieldRead} (g : r ≡ field.Ended) (here : a ≤ length s) where
+module _ (p : Place) (span : Span) (base : ℕ) (s : List ℕ) (f : Flow) (d : Draft) (at a : ℕ) {r : FieldRead} (g : r ≡ None) (here : a ≤ length s) where
   pub no_count_there : r ≡ field_at s at 2 → a + 2 ≡ at → from left base s f (field_d left plain (reserved_d p span d) 2 0) a ≡ ended left base s f
   unfolding reserved_d
   no_count_there e there = past_out base s f (count_d p span d) 2 at e (reserved_d p span d) 2 a there here (λ u. refl) g
@@ -111,6 +111,15 @@ module _ (p : Place) (span : Span) (base : ℕ) (s : List ℕ) (f : Flow) (d : D
   pub no_id_there : r ≡ field_at s at 4 → a + 3 ≡ at → from left base s f (field_d left plain (flags_d p span d) 3 0) a ≡ ended left base s f
   unfolding flags_d
   no_id_there e there = past_out base s f (id_d p span d) 4 at e (flags_d p span d) 3 a there here (λ u. refl) g
+
+-- a number of either width
+sized : (wide : Bool) → pick wide 8 4 ≡ suc (wide_more wide)
+unfolding wide_more pick
+sized true = refl
+sized false = refl
+
+pub sized_in : (s : List ℕ) (at : ℕ) (wide : Bool) {r : FieldRead} → r ≡ field_at s at (pick wide 8 4) → r ≡ field_at s at (suc (wide_more wide))
+sized_in s at wide e = e ∙ ap (field_at s at) (sized wide)
 
 -- a number has at most eight bytes
 pub wide_most : (wide : Bool) → suc (wide_more wide) ≤ 8
@@ -139,7 +148,7 @@ module _ (p : Place) (base pos end : ℕ) (s : List ℕ) (f : Flow) (d : Draft) 
   Bad n = stopped left base s f (stop_at n pos next)
 
   -- the two numbers that bytes are passed over before
-  module _ (at a : ℕ) {r : FieldRead} (g : r ≡ field.Read v next) (here : a ≤ length s) where
+  module _ (at a : ℕ) {r : FieldRead} (g : r ≡ Some (v, next)) (here : a ≤ length s) where
     pub past_count : r ≡ field_at s at 2 → a + 2 ≡ at → from left base s f (field_d left plain (reserved_d p span d) 2 0) a ≡ On (count_d p span d v)
     unfolding reserved_d
     past_count e there = past_in base s f (count_d p span d) 2 at e (reserved_d p span d) 2 a there here (λ u. refl) g

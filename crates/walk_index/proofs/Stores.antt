@@ -1,11 +1,14 @@
 -- Bytes stored as read: a word's four, and those that there are.
-use Prim.Native.Nat.{ℕ, suc, ◌+◌, ◌*◌, ◌/◌, ◌%◌, ◌≤◌, ◌<◌}
-use mathlib.Core.Path.{◌≡◌, refl, ap, sym, ◌∙◌}
+use Prim.Native.Nat.{ℕ, suc, ◌+◌, ◌-◌, ◌*◌, ◌/◌, ◌%◌, ◌≤◌, ◌<◌}
+use mathlib.Core.Path.{◌≡◌, refl, sym, ◌∙◌}
 use mathlib.Core.List.{List, [], ◌∷◌}
 use native.Mathlib.Omega.{arith}
-use lib.ListN.{length, get_or, set, take, drop, length-set, drop_of_length-le}
+use borrow.Rule.Slice.PartMut.{put_mid}
+use lib.ListN.{length, get_or, take, drop, length-drop}
 use lib.Seq.{drop-cons}
+use Rattle.std.proofs.lemmas.List.{append_assoc, drop-drop, take_rest}
 use Rattle.basics.specs.Put.{put_all}
+use Rattle.basics.proofs.Put.{put_between}
 use Rattle.fields.specs.Answers.{number_at}
 use Rattle.fields.proofs.Width.{word_law}
 use Rattle.walk_index.specs.Parts.{word_bytes}
@@ -37,27 +40,10 @@ module _ (s : List ℕ) (j : ℕ) (there : j + 4 ≤ length s) where
       digits (get_or s j 0) (get_or s (j + 1) 0) (get_or s (j + 2) 0) (get_or s (j + 3) 0) v (byte j) (byte (j + 1)) (byte (j + 2)) (byte (j + 3))
       (e ∙ sym (word_law s j _ _ _ _ there refl refl refl refl)) ∙ sym four
 
--- after `k` bytes are stored, with the others what all of them leave
-module _ (s : List ℕ) (i j : ℕ) (work₀ : List ℕ) where
-  abbrev pub Rests : List ℕ → ℕ → Type 0
-  Rests work k = (j + k ≤ length s) × (length work ≡ length work₀) × (put_all work (i + k) (drop (j + k) s) ≡ put_all work₀ i (drop j s))
-
-  pub rests_first : j ≤ length s → Rests work₀ 0
-  rests_first h =
-      let a : i + 0 ≡ i = omega arith in
-      let b : j + 0 ≡ j = omega arith in
-      (omega arith, refl, rw (a, b) refl)
-
-  pub rests_next : (work work' : List ℕ) (k : ℕ) → j + k < length s → work' ≡ set work (i + k) (get_or s (j + k) 0) → Rests work k → Rests work' (k + 1)
-  unfolding put_all
-  rests_next work work' k h e so =
-      let a : i + (k + 1) ≡ suc (i + k) = omega arith in
-      let b : j + (k + 1) ≡ suc (j + k) = omega arith in (
-        omega arith,
-        ap length e ∙ length-set work (i + k) (get_or s (j + k) 0) ∙ so.1,
-        rw (e, a, b) (sym (ap (put_all work (i + k)) (drop-cons s (j + k) 0 h)) ∙ so.2),
-      )
-
-  pub rests_last : (work : List ℕ) (k : ℕ) → length s ≤ j + k → Rests work k → work ≡ put_all work₀ i (drop j s)
-  unfolding put_all
-  rests_last work k h so = sym (ap (put_all work (i + k)) (drop_of_length-le s h)) ∙ so.2
+-- the bytes from `j` on, put over as many as they are
+pub put_over : (s : List ℕ) (i j n : ℕ) (work new : List ℕ) → new ≡ take (length s - j) (drop j s) → n ≡ length new → j ≤ length s → i + length s ≤ length work + j →
+    put_mid i n work new ≡ put_all work i (drop j s)
+put_over s i j n work new e en here room =
+    let same = e ∙ take_rest s j in
+    rw (same, en, same, drop-drop (length (drop j s)) i work, ← append_assoc (take i work) (drop j s) (drop (i + length (drop j s)) work))
+    (sym (put_between work i (drop j s) (omega (arith, length-drop j s))))

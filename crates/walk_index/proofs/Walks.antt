@@ -7,6 +7,8 @@ use native.Mathlib.Omega.{arith}
 use lib.Dec.{eqb, leb}
 use lib.ListN.{length, take, drop}
 use borrow.Author.Tests.{ne_eqb}
+use Rattle.fields.specs.declared.Halt.{Halt}
+use Rattle.std.specs.Prelude.{Some, None, Ok, Err}
 use Rattle.basics.specs.Put.{put_all}
 use Rattle.basics.proofs.Put.{put_length}
 use Rattle.segment.specs.Constants.{type_bit, entry_bytes}
@@ -22,13 +24,10 @@ use Rattle.state.specs.Ranges.{word_limit}
 use Rattle.descent.specs.Sidx.{close_d, entry_d, entries_d, counted_d}
 use Rattle.fields.specs.Answers.{number_at, stop_at}
 use Rattle.fields.specs.declared.Stop.{Stop}
-use Rattle.fields.specs.Onward.{ended, from}
-use Rattle.walk_index.specs.Parts.{span_at, sums, taken_d, TakenFixed, added_d, EntryWalked, PartWalked, AddedWalked}
-use Rattle.walk_index.specs.declared.EntryTaken.{EntryTaken}
-use Rattle.walk_index.specs.declared.EntryTaken.TheVariants as taken
-use Rattle.walk_index.specs.declared.EntriesRead.{EntriesRead}
-use Rattle.walk_index.specs.declared.EntriesRead.TheVariants as entries
+use Rattle.fields.specs.Onward.{ended, from, halted}
+use Rattle.walk_index.specs.Parts.{span_at, sums, EntryTaken, taken_d, TakenFixed, added_d, EntryWalked, PartWalked, AddedWalked}
 use Rattle.walk_index.proofs.Entries.{entry_none, entry_whole, entry_cut}
+use Rattle.fields.specs.declared.Halt.TheVariants as halt
 
 abbrev Res' : Type 0
 Res' = Res IndexRead Flow Left
@@ -39,7 +38,7 @@ module _ (s : List ℕ) (i j : ℕ) (work work' : List ℕ) where
     first_long : length work' ≡ length work
     first_long = ap length e ∙ put_length work i (take 4 (drop j s))
 
-    pub entry_refused : EntryWalked s i j work work' taken.Bad
+    pub entry_refused : EntryWalked s i j work work' None
     unfolding taken_d
     entry_refused = record {
       right = λ p span more t base f place. sym (entry_none p span more t base s f work i j place there none
@@ -48,8 +47,8 @@ module _ (s : List ℕ) (i j : ℕ) (work work' : List ℕ) where
       fixed = tt;
     }
 
-    pub part_refused : (pos : ℕ) (x : Stop) → x ≡ stop_at 11 pos (j + 4) → (end : ℕ) → j + 12 ≤ end → pos ≤ end → PartWalked s pos i j end work work' (entries.Bad x)
-    unfolding added_d
+    pub part_refused : (pos : ℕ) (x : Stop) → x ≡ stop_at 11 pos (j + 4) → (end : ℕ) → j + 12 ≤ end → pos ≤ end → PartWalked s pos i j end work work' (Err (halt.Bad x))
+    unfolding added_d halted
     part_refused pos x q end h k = rw q (record {
       right = λ p d count base span more t f place at. sym (entry_none p span more t base s f work i j place there none
           ∙ ap (λ (w : List ℕ). fail (refusal 11 span.pos) (left (with_work f w)) (base + (j + 4))) (sym e)
@@ -62,7 +61,7 @@ module _ (s : List ℕ) (i j : ℕ) (work work' : List ℕ) where
   pub entry_taken : (size duration : ℕ) →
       work' ≡ put_all (put_all (put_all work i (take 4 (drop j s))) (i + 4) (take 4 (drop (j + 4) s))) (i + 4 + 4) (take 4 (drop (j + 4 + 4) s)) → j + 12 ≤ length s →
       (number_at 4 s j % type_bit ≡ 0 → ⊥) → size ≡ number_at 4 s j % type_bit → duration ≡ number_at 4 s (j + 4) → duration < word_limit →
-      EntryWalked s i j work work' (taken.Read size duration)
+      EntryWalked s i j work work' (Some (size, duration))
   unfolding taken_d
   entry_taken size duration e there some es ed small = rw (es, ed) (record {
     right = λ p span more t base f place. sym (entry_whole p span more t base s f work i j place there (ne_eqb _ _ some)
@@ -73,8 +72,8 @@ module _ (s : List ℕ) (i j : ℕ) (work work' : List ℕ) where
 
   -- the bytes end in it
   pub part_ended : (pos : ℕ) → work' ≡ put_all work i (drop j s) → j ≤ length s → length s < j + 12 →
-      (leb (j + 4) (length s) && eqb (number_at 4 s j % type_bit) 0) ≡ false → (end : ℕ) → PartWalked s pos i j end work work' entries.Ended
-  unfolding added_d
+      (leb (j + 4) (length s) && eqb (number_at 4 s j % type_bit) 0) ≡ false → (end : ℕ) → PartWalked s pos i j end work work' (Err halt.Ended)
+  unfolding added_d halted
   part_ended pos e here short h end = record {
     right = λ p d count base span more t f place at. sym (entry_cut p span more t base s f work i j place here short h
         ∙ ap (λ (w : List ℕ). ended left base s (with_work f w)) (sym e));
@@ -83,7 +82,7 @@ module _ (s : List ℕ) (i j : ℕ) (work work' : List ℕ) where
   }
 
 -- the numbers of an entry that was taken are small
-pub taken_small : {r : EntryTaken} {size duration : ℕ} → r ≡ taken.Read size duration → TakenFixed r → (size < type_bit) × (duration < word_limit)
+pub taken_small : {r : EntryTaken} {size duration : ℕ} → r ≡ Some (size, duration) → TakenFixed r → (size < type_bit) × (duration < word_limit)
 taken_small e h = subst (λ (q : EntryTaken). TakenFixed q) e h
 
 -- two tests that both hold
@@ -156,11 +155,11 @@ module _ (s : List ℕ) (pos at end part : ℕ) (work₀ : List ℕ) where
     at_place p hp = rw hp so.place
 
     module _ (work' : List ℕ) {r : EntryTaken} (walked : EntryWalked s i j work work' r) where
-      pub passed_next : {size duration : ℕ} → r ≡ taken.Read size duration → j + 12 ≤ end → j + 12 ≤ length s →
+      pub passed_next : {size duration : ℕ} → r ≡ Some (size, duration) → j + 12 ≤ end → j + 12 ≤ length s →
           EntriesSo s pos at end part work₀ (sizes + size) (durations + duration) (i + 12) (j + 12) work'
       unfolding taken_d
       passed_next {size} {duration} e h k =
-          let w : EntryWalked s i j work work' (taken.Read size duration) = rw e at walked in
+          let w : EntryWalked s i j work work' (Some (size, duration)) = rw e at walked in
           record {
             done = suc so.done;
             place = omega (arith, so.place);
@@ -175,10 +174,10 @@ module _ (s : List ℕ) (pos at end part : ℕ) (work₀ : List ℕ) where
                 ∙ at_entry (omega arith) p d count base f hp q;
           }
 
-      pub passed_refused : r ≡ taken.Bad → (x : Stop) → x ≡ stop_at 11 pos (j + 4) → j + 12 ≤ end → pos ≤ end → AddedWalked s pos at end part work₀ work' (entries.Bad x)
-      unfolding taken_d added_d
+      pub passed_refused : r ≡ None → (x : Stop) → x ≡ stop_at 11 pos (j + 4) → j + 12 ≤ end → pos ≤ end → AddedWalked s pos at end part work₀ work' (Err (halt.Bad x))
+      unfolding taken_d added_d halted
       passed_refused e x q h k =
-          let w : EntryWalked s i j work work' taken.Bad = rw e at walked in
+          let w : EntryWalked s i j work work' None = rw e at walked in
           rw q (record {
             right = λ p d count base f hp q.
                 w.right p (span_at base pos end) (on_d p d base (count - suc so.done)) (sums so.done count sizes durations) base f (at_place p hp)
@@ -187,8 +186,8 @@ module _ (s : List ℕ) (pos at end part : ℕ) (work₀ : List ℕ) where
             fixed = (refl, k, omega arith);
           })
 
-    pub passed_part : (work' : List ℕ) (r : EntriesRead) → j < end → PartWalked s pos i j end work work' r → AddedWalked s pos at end part work₀ work' r
-    passed_part work' r h w = record {
+    pub passed_part : (work' : List ℕ) (x : Halt) → j < end → PartWalked s pos i j end work work' (Err x) → AddedWalked s pos at end part work₀ work' (Err x)
+    passed_part work' x h w = record {
       right = λ p d count base f hp q.
           w.right p d count base (span_at base pos end) (on_d p d base (count - suc so.done)) (sums so.done count sizes durations) f (at_place p hp) refl
           ∙ at_entry h p d count base f hp q;
@@ -196,8 +195,8 @@ module _ (s : List ℕ) (pos at end part : ℕ) (work₀ : List ℕ) where
       fixed = w.fixed at;
     }
 
-    pub passed_last : end ≤ j → AddedWalked s pos at end part work₀ work (entries.Read (record { sizes = sizes; durations = durations }))
-    unfolding rest_d added_d
+    pub passed_last : end ≤ j → AddedWalked s pos at end part work₀ work (Ok (record { sizes = sizes; durations = durations }))
+    unfolding rest_d added_d halted
     passed_last h =
         let e : j ≡ end = omega (arith, so.within) in
         record {

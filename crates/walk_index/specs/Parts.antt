@@ -1,5 +1,6 @@
 -- What the code's answers of an index's parts make of a reading by structure: of its numbers before the entries, and of its entries.
-use Rattle.std.specs.Prelude.{ℕ, ◌+◌, ◌*◌, ◌/◌, ◌%◌, ◌≤◌, ◌<◌, ◌≡◌, Bool, true, false, List, [], ◌∷◌, length}
+use Rattle.fields.specs.declared.Halt.{Halt}
+use Rattle.std.specs.Prelude.{ℕ, ◌+◌, ◌*◌, ◌/◌, ◌%◌, ◌≤◌, ◌<◌, ◌≡◌, Bool, true, false, List, [], ◌∷◌, length, Option, Some, None, Result, Ok, Err}
 use Rattle.segment.specs.Constants.{type_bit, entry_bytes, most_entries}
 use Rattle.machine.specs.Faults.{refusal}
 use Rattle.machine.specs.Run.{Res, fail}
@@ -12,16 +13,21 @@ use Rattle.state.specs.Sidx.{Place, topmost, under, part_of, index_of}
 use Rattle.state.specs.Ranges.{word_limit}
 use Rattle.descent.specs.Sidx.{close_d, entry_d, counted_d}
 use Rattle.fields.specs.declared.Stop.{Stop}
-use Rattle.fields.specs.Onward.{stopped, ended, from}
+use Rattle.fields.specs.Onward.{from, halted}
+use Rattle.walk_index.specs.declared.Fields.{Fields}
+use Rattle.walk_index.specs.declared.Added.{Added}
 use Rattle.walk_index.specs.declared.Wanted.{Wanted}
-use Rattle.walk_index.specs.declared.FieldsRead.{FieldsRead}
-use Rattle.walk_index.specs.declared.FieldsRead.TheVariants as fields
-use Rattle.walk_index.specs.declared.EntryTaken.{EntryTaken}
-use Rattle.walk_index.specs.declared.EntryTaken.TheVariants as taken
-use Rattle.walk_index.specs.declared.EntriesRead.{EntriesRead}
-use Rattle.walk_index.specs.declared.EntriesRead.TheVariants as entries
-use Rattle.walk_index.specs.declared.IndexAnswer.{IndexAnswer}
-use Rattle.walk_index.specs.declared.IndexAnswer.TheVariants as answer
+use Rattle.fields.specs.declared.Halt.TheVariants as halt
+
+-- what was read of an index before its entries, the size and the duration of an entry, none where its size is 0, and the sums of the entries
+abbrev pub FieldsRead : Type 0
+FieldsRead = Result Fields Halt
+
+abbrev pub EntryTaken : Type 0
+EntryTaken = Option (ℕ × ℕ)
+
+abbrev pub EntriesRead : Type 0
+EntriesRead = Result Added Halt
 
 abbrev Res' : Type 0
 Res' = Res IndexRead Flow Left
@@ -44,19 +50,21 @@ sums next count sizes durations = record { next = next; count = count; sizes = s
 -- the numbers before the entries were read, one is refused, or the bytes end
 module _ (p : Place) (span : Span) (wide : Bool) (base : ℕ) (s : List ℕ) (f : Flow) where
   unfoldable pub fields_d : FieldsRead → Res'
-  fields_d (fields.Read x) = from left base s f (counted_d p span (draft wide x.id x.scale x.time x.offset) x.count x.count) x.from
-  fields_d (fields.Bad x) = stopped left base s f x
-  fields_d fields.Ended = ended left base s f
+  fields_d (Ok x) = from left base s f (counted_d p span (draft wide x.id x.scale x.time x.offset) x.count x.count) x.from
+  fields_d (Err x) = halted left base s f x
 
 -- A refusal of an index that ends at `end` tells no leaves. Its byte may stand past the end where the box is too short for its numbers.
 abbrev pub StopIn : ℕ → Stop → Type 0
 StopIn end x = (x.leaves ≡ 0) × (x.place ≤ end) × (x.count ≤ end + 32)
 
+abbrev pub HaltIn : ℕ → Halt → Type 0
+HaltIn end (halt.Bad x) = StopIn end x
+HaltIn end halt.Ended = Unit {0}
+
 -- the entries that follow the numbers are some, not too many, and end the box
 abbrev pub FieldsFixed : List ℕ → ℕ → FieldsRead → Type 0
-FieldsFixed s end (fields.Read x) = (1 ≤ x.count) × (x.count ≤ most_entries) × (x.from ≤ length s) × (end ≡ x.from + entry_bytes * x.count)
-FieldsFixed s end (fields.Bad x) = StopIn end x
-FieldsFixed s end fields.Ended = Unit {0}
+FieldsFixed s end (Ok x) = (1 ≤ x.count) × (x.count ≤ most_entries) × (x.from ≤ length s) × (end ≡ x.from + entry_bytes * x.count)
+FieldsFixed s end (Err x) = HaltIn end x
 
 -- the bytes of a word, the first one the highest
 abbrev pub word_bytes : ℕ → List ℕ
@@ -65,12 +73,12 @@ word_bytes v = v / 16777216 % 256 ∷ v / 65536 % 256 ∷ v / 256 % 256 ∷ v % 
 -- an entry was read: its size and its duration are added; or its size is 0
 module _ (span : Span) (more : Sums → Flow → ℕ → List ℕ → Res') (t : Sums) (base : ℕ) (s : List ℕ) (f : Flow) (j : ℕ) where
   unfoldable pub taken_d : EntryTaken → Res'
-  taken_d (taken.Read size duration) = from left base s f (more (sums t.next t.count (t.sizes + size) (t.durations + duration))) (j + 12)
-  taken_d taken.Bad = fail (refusal 11 span.pos) (left f) (base + (j + 4))
+  taken_d (Some (size, duration)) = from left base s f (more (sums t.next t.count (t.sizes + size) (t.durations + duration))) (j + 12)
+  taken_d None = fail (refusal 11 span.pos) (left f) (base + (j + 4))
 
 abbrev pub TakenFixed : EntryTaken → Type 0
-TakenFixed (taken.Read size duration) = (size < type_bit) × (duration < word_limit)
-TakenFixed taken.Bad = Unit {0}
+TakenFixed (Some (size, duration)) = (size < type_bit) × (duration < word_limit)
+TakenFixed None = Unit {0}
 
 -- The twelve bytes at `j` are read as the descent reads an entry, and stored from `i` on.
 pub record EntryWalked (s : List ℕ) (i j : ℕ) (work work' : List ℕ) (r : EntryTaken) : Type 0 where
@@ -82,14 +90,12 @@ pub record EntryWalked (s : List ℕ) (i j : ℕ) (work work' : List ℕ) (r : E
 -- the entries are read up to the end of the box, one is refused, or the bytes end
 module _ (p : Place) (span : Span) (d : Draft) (count end base : ℕ) (s : List ℕ) (f : Flow) where
   unfoldable pub added_d : EntriesRead → Res'
-  added_d (entries.Read a) = from left base s f (close_d p span (index_of d (sums count count a.sizes a.durations))) end
-  added_d (entries.Bad x) = stopped left base s f x
-  added_d entries.Ended = ended left base s f
+  added_d (Ok a) = from left base s f (close_d p span (index_of d (sums count count a.sizes a.durations))) end
+  added_d (Err x) = halted left base s f x
 
 abbrev pub EntriesFixed : List ℕ → ℕ → ℕ → EntriesRead → Type 0
-EntriesFixed s from end (entries.Read a) = (end ≤ length s) × ((count : ℕ) → end ≡ from + entry_bytes * count → a.sizes ≤ type_bit * count)
-EntriesFixed s from end (entries.Bad x) = StopIn end x
-EntriesFixed s from end entries.Ended = Unit {0}
+EntriesFixed s from end (Ok a) = (end ≤ length s) × ((count : ℕ) → end ≡ from + entry_bytes * count → a.sizes ≤ type_bit * count)
+EntriesFixed s from end (Err x) = HaltIn end x
 
 -- An entry that is not whole is read as the descent reads it, and what there is of it is stored from `i` on.
 pub record PartWalked (s : List ℕ) (pos i j end : ℕ) (work work' : List ℕ) (r : EntriesRead) : Type 0 where
@@ -105,14 +111,3 @@ pub record AddedWalked (s : List ℕ) (pos at end part : ℕ) (work work' : List
       added_d p (span_at base pos end) d count end base s (with_work f work') r ≡ from left base s (with_work f work) (counted_d p (span_at base pos end) d count count) at
   pub long : length work' ≡ length work
   pub fixed : EntriesFixed s at end r
-
--- what goes out where the numbers, or the entries, were not read
-abbrev pub fields_answer : FieldsRead → IndexAnswer
-fields_answer (fields.Read x) = answer.Ended
-fields_answer (fields.Bad x) = answer.Bad x
-fields_answer fields.Ended = answer.Ended
-
-abbrev pub entries_answer : EntriesRead → IndexAnswer
-entries_answer (entries.Read a) = answer.Ended
-entries_answer (entries.Bad x) = answer.Bad x
-entries_answer entries.Ended = answer.Ended

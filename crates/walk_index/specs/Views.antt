@@ -1,5 +1,6 @@
 -- What the code's answers of an index make of a reading by structure.
-use Rattle.std.specs.Prelude.{ℕ, ◌+◌, ◌≤◌, ◌<◌, ◌≡◌, List, length, drop}
+use Rattle.fields.specs.declared.Halt.{Halt}
+use Rattle.std.specs.Prelude.{ℕ, ◌+◌, ◌≤◌, ◌<◌, ◌≡◌, List, length, drop, Result, Ok, Err}
 use Rattle.segment.specs.Constants.{limit, time_limit, most_entries}
 use Rattle.machine.specs.Run.{Res, okay}
 use Rattle.state.specs.declared.IndexRead.{IndexRead}
@@ -8,23 +9,23 @@ use Rattle.index.specs.declared.Where.{Where}
 use Rattle.index.specs.declared.Where.TheVariants as places
 use Rattle.index.specs.Views.{place_of}
 use Rattle.descent.specs.Sidx.{sidx_d}
-use Rattle.fields.specs.Onward.{stopped, ended, from}
-use Rattle.walk_index.specs.Parts.{StopIn, span_at}
-use Rattle.walk_index.specs.declared.IndexAnswer.{IndexAnswer}
-use Rattle.walk_index.specs.declared.IndexAnswer.TheVariants as answer
+use Rattle.fields.specs.Onward.{from, halted}
+use Rattle.walk_index.specs.Parts.{HaltIn, span_at}
+
+-- an index that was read, or why none was
+abbrev pub IndexAnswer : Type 0
+IndexAnswer = Result IndexRead Halt
 
 -- an index that ends at `end` was read, it is refused, or the bytes end
 unfoldable pub index_d : ℕ → List ℕ → ℕ → Flow → IndexAnswer → Res IndexRead Flow Left
-index_d base s end f (answer.Read x) = from left base s f (okay x) end
-index_d base s end f (answer.Bad x) = stopped left base s f x
-index_d base s end f answer.Ended = ended left base s f
+index_d base s end f (Ok x) = from left base s f (okay x) end
+index_d base s end f (Err x) = halted left base s f x
 
 -- What the reading says nothing of: an index that was read has entries, not too many, and its bytes are there; a refusal's place is that
 -- of the index.
 abbrev pub IndexFixed : List ℕ → ℕ → IndexAnswer → Type 0
-IndexFixed s end (answer.Read x) = (1 ≤ x.count) × (x.count ≤ most_entries) × (end ≤ length s)
-IndexFixed s end (answer.Bad x) = StopIn end x
-IndexFixed s end answer.Ended = Unit {0}
+IndexFixed s end (Ok x) = (1 ≤ x.count) × (x.count ≤ most_entries) × (end ≤ length s)
+IndexFixed s end (Err x) = HaltIn end x
 
 -- row 14 was not shown: the material of a top index that ends at the place `n` ends within the limit, and its durations before 2^64
 abbrev pub SumsFit : Where → ℕ → IndexRead → Type 0
@@ -38,4 +39,4 @@ pub record IndexWalked (p : Where) (when base : ℕ) (s : List ℕ) (pos at end 
       index_d base s end (with_work f work') r ≡ sidx_d (place_of p) (span_at base pos end) f (base + at) (drop at s)
   pub long : length work' ≡ length work
   pub fixed : IndexFixed s end r
-  pub sums : (x : IndexRead) → r ≡ answer.Read x → SumsFit p (base + end) x
+  pub sums : (x : IndexRead) → r ≡ Ok x → SumsFit p (base + end) x

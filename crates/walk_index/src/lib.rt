@@ -2,7 +2,7 @@
 // Positions count from the first byte lent, which stands at the place `base` of the segment.
 #![tactic(auto)]
 
-ghost use Rattle.std.specs.Prelude.{◌≡◌, Bool, ◌&&◌, not, ℕ, suc, ◌+◌, ◌-◌, ◌%◌, ◌<◌, ◌≤◌, eqb, leb, length, take, drop};
+ghost use Rattle.std.specs.Prelude.{◌≡◌, Bool, ◌&&◌, not, ℕ, suc, ◌+◌, ◌-◌, ◌%◌, ◌<◌, ◌≤◌, eqb, leb, length, take, drop, Err};
 ghost use Rattle.basics.specs.Put.{put_all};
 ghost use Rattle.segment.specs.Constants.{limit, type_bit, entry_bytes};
 ghost use Rattle.machine.specs.Run.{field_d, plain};
@@ -10,14 +10,14 @@ ghost use Rattle.state.specs.Flow.{Flow, left, work_bytes};
 ghost use Rattle.state.specs.Sidx.{Place, wide_more};
 ghost use Rattle.index.specs.Views.{place_of, Shallow, Timely};
 ghost use Rattle.descent.specs.Sidx.{reserved_d, time_d, flags_d, sidx_d};
-ghost use Rattle.fields.specs.Answers.{farthest, number_at, field_at};
+ghost use Rattle.fields.specs.Answers.{number_at};
 ghost use Rattle.fields.specs.Onward.{from};
-ghost use Rattle.walk_index.specs.Parts.{span_at, wanted_of, draft, fields_d, FieldsFixed, word_bytes, EntryWalked, PartWalked, AddedWalked, fields_answer, entries_answer};
+ghost use Rattle.walk_index.specs.Parts.{span_at, wanted_of, draft, fields_d, FieldsFixed, word_bytes, EntryWalked, PartWalked, AddedWalked};
 ghost use Rattle.walk_index.specs.Views.{IndexWalked};
 
-use fields::{FieldRead, Stop, stop_at, word_at};
+use fields::{Halt, stop_at, word_at};
 use index::{Where, no_count, sums_flaw, too_short};
-use reader::read_field;
+use reader::{read_field, read_sized};
 use state::{ENTRY_BYTES, IndexRead, LEVEL_BYTES, TYPE_BIT};
 
 // What is read of an index before its entries, and the position where these start.
@@ -31,21 +31,6 @@ struct Fields {
     pub from: u64,
 }
 
-// The answer of the numbers before the entries.
-#[derive(Clone, Copy)]
-enum FieldsRead {
-    Read(Fields),
-    Bad(Stop),
-    Ended,
-}
-
-// The answer of an entry: its size and its duration, or that its size is 0.
-#[derive(Clone, Copy)]
-enum EntryTaken {
-    Read(u64, u64),
-    Bad,
-}
-
 // The sums of an index's entries.
 #[derive(Clone, Copy)]
 struct Added {
@@ -53,24 +38,9 @@ struct Added {
     pub durations: u64,
 }
 
-// The answer of the entries.
-#[derive(Clone, Copy)]
-enum EntriesRead {
-    Read(Added),
-    Bad(Stop),
-    Ended,
-}
-
-// The answer of an index.
-#[derive(Clone, Copy)]
-pub enum IndexAnswer {
-    Read(IndexRead),
-    Bad(Stop),
-    Ended,
-}
-
 // What the numbers of an index have to be: whether it is an inner one, its parent's reference ID and timescale; and its level's part of
-// the work area.
+// the work area. No `Option` for `id` and `scale`: `differs` tests four numbers alike where `inner` holds, and the start time and the
+// first offset that it wants are not the parent's.
 #[derive(Clone, Copy)]
 struct Wanted {
     pub inner: bool,
@@ -104,21 +74,7 @@ fn wanted_at(p: Where) -> Wanted
 fn differs(inner: bool, v: u64, want: u64) -> bool
     ensures { result ≡ (inner && not (eqb v want)) }
 {
-    if inner {
-        return v != want;
-    }
-    false
-}
-
-// A number of 32 bits in version 0, of 64 in version 1.
-fn read_sized(big: bool, bytes: &[u8], at: usize) -> FieldRead
-    requires { at ≤ farthest }
-    ensures { result ≡ field_at bytes.now at (suc (wide_more big)) }
-{
-    if big {
-        return read_field(bytes, at, 8);
-    }
-    read_field(bytes, at, 4)
+    inner && v != want
 }
 
 // The count, which the entries follow up to the end of the box.
@@ -131,24 +87,21 @@ fn read_count(
     pos: usize,
     at: usize,
     end: usize,
-) -> FieldsRead
+) -> Result<Fields, Halt>
     requires { (at ≤ end + 30) × (end ≤ limit) × (pos ≤ end) }
     ensures { ((p : Place) (wide : Bool) (base : ℕ) (f : Flow) (a : ℕ) → a + 2 ≡ at → a ≤ length bytes.now →
         fields_d p (span_at base pos end) wide base bytes.now f result
         ≡ from left base bytes.now f (field_d left plain (reserved_d p (span_at base pos end) (draft wide id scale time offset)) 2 0) a)
         × FieldsFixed bytes.now end result }
 {
-    let got = read_field(bytes, at, 2);
-    let FieldRead::Read(count, next) = got else {
-        return FieldsRead::Ended;
-    };
+    let (count, next) = read_field(bytes, at, 2).ok_or(Halt::Ended)?;
     if end as u64 != (next as u64) + ENTRY_BYTES * count {
-        return FieldsRead::Bad(stop_at(6, pos, next));
+        return Err(Halt::Bad(stop_at(6, pos, next)));
     }
     if no_count(count) {
-        return FieldsRead::Bad(stop_at(11, pos, next));
+        return Err(Halt::Bad(stop_at(11, pos, next)));
     }
-    FieldsRead::Read(Fields {
+    Ok(Fields {
         id,
         scale,
         time,
@@ -169,26 +122,20 @@ fn read_times(
     pos: usize,
     at: usize,
     end: usize,
-) -> FieldsRead
+) -> Result<Fields, Halt>
     requires { (at ≤ end + 12) × (end ≤ limit) × (pos ≤ end) × (at ≤ length bytes.now) }
     ensures { ((p : Place) (base : ℕ) (f : Flow) → (wanted_of p).inner ≡ inner → f.now ≡ when →
         fields_d p (span_at base pos end) big base bytes.now f result
         ≡ from left base bytes.now f (field_d left plain (time_d p (span_at base pos end) (draft big id scale 0 0)) (suc (wide_more big)) 0) at)
         × FieldsFixed bytes.now end result }
 {
-    let got = read_sized(big, bytes, at);
-    let FieldRead::Read(time, next) = got else {
-        return FieldsRead::Ended;
-    };
+    let (time, next) = read_sized(big, bytes, at).ok_or(Halt::Ended)?;
     if differs(inner, time, when) {
-        return FieldsRead::Bad(stop_at(12, pos, next));
+        return Err(Halt::Bad(stop_at(12, pos, next)));
     }
-    let more = read_sized(big, bytes, next);
-    let FieldRead::Read(offset, last) = more else {
-        return FieldsRead::Ended;
-    };
+    let (offset, last) = read_sized(big, bytes, next).ok_or(Halt::Ended)?;
     if differs(inner, offset, 0) {
-        return FieldsRead::Bad(stop_at(12, pos, last));
+        return Err(Halt::Bad(stop_at(12, pos, last)));
     }
     read_count(id, scale, time, offset, bytes, pos, last + 2, end)
 }
@@ -202,50 +149,48 @@ fn read_ids(
     pos: usize,
     at: usize,
     end: usize,
-) -> FieldsRead
+) -> Result<Fields, Halt>
     requires { (at ≤ end + 4) × (end ≤ limit) × (pos ≤ end) }
     ensures { ((p : Place) (base : ℕ) (f : Flow) (a : ℕ) → wanted_of p ≡ w → f.now ≡ when → a + 3 ≡ at → a ≤ length bytes.now →
         fields_d p (span_at base pos end) big base bytes.now f result
         ≡ from left base bytes.now f (field_d left plain (flags_d p (span_at base pos end) (draft big 0 0 0 0)) 3 0) a)
         × FieldsFixed bytes.now end result }
 {
-    let got = read_field(bytes, at, 4);
-    let FieldRead::Read(id, next) = got else {
-        return FieldsRead::Ended;
-    };
+    let (id, next) = read_field(bytes, at, 4).ok_or(Halt::Ended)?;
     if differs(w.inner, id, w.id) {
-        return FieldsRead::Bad(stop_at(12, pos, next));
+        return Err(Halt::Bad(stop_at(12, pos, next)));
     }
-    let more = read_field(bytes, next, 4);
-    let FieldRead::Read(scale, last) = more else {
-        return FieldsRead::Ended;
-    };
+    let (scale, last) = read_field(bytes, next, 4).ok_or(Halt::Ended)?;
     if scale == 0 {
-        return FieldsRead::Bad(stop_at(11, pos, last));
+        return Err(Halt::Bad(stop_at(11, pos, last)));
     }
     if differs(w.inner, scale, w.scale) {
-        return FieldsRead::Bad(stop_at(12, pos, last));
+        return Err(Halt::Bad(stop_at(12, pos, last)));
     }
     read_times(id, scale, w.inner, when, big, bytes, pos, last, end)
 }
 
 // The numbers of the index at `pos` before its entries, from `at` on.
-fn read_fields(w: Wanted, when: u64, bytes: &[u8], pos: usize, at: usize, end: usize) -> FieldsRead
+fn read_fields(
+    w: Wanted,
+    when: u64,
+    bytes: &[u8],
+    pos: usize,
+    at: usize,
+    end: usize,
+) -> Result<Fields, Halt>
     requires { (pos ≤ at) × (at ≤ end) × (end ≤ limit) × (at ≤ length bytes.now) }
     ensures { ((p : Place) (base : ℕ) (f : Flow) → wanted_of p ≡ w → f.now ≡ when →
         fields_d p (span_at base pos end) (eqb (number_at 1 bytes.now at) 1) base bytes.now f result
         ≡ from left base bytes.now f (sidx_d p (span_at base pos end)) at)
         × FieldsFixed bytes.now end result }
 {
-    let got = read_field(bytes, at, 1);
-    let FieldRead::Read(version, next) = got else {
-        return FieldsRead::Ended;
-    };
+    let (version, next) = read_field(bytes, at, 1).ok_or(Halt::Ended)?;
     if too_short(end as u64, version, next as u64) {
-        return FieldsRead::Bad(stop_at(6, pos, next));
+        return Err(Halt::Bad(stop_at(6, pos, next)));
     }
     if 1 < version {
-        return FieldsRead::Bad(stop_at(10, pos, next));
+        return Err(Halt::Bad(stop_at(10, pos, next)));
     }
     read_ids(w, when, version == 1, bytes, pos, next + 3, end)
 }
@@ -286,11 +231,8 @@ fn store_rest(work: &mut [u8], i: usize, bytes: &[u8], j: usize)
     requires { (j ≤ length bytes.now) × (i + length bytes.now ≤ length work.old + j) }
     ensures { work.new ≡ put_all work.old i (drop j bytes.now) }
 {
-    let mut k: usize = 0;
-    while j + k < bytes.len() {
-        work[i + k] = bytes[j + k];
-        k += 1;
-    }
+    let rest = &bytes[j..];
+    work[i..i + rest.len()].copy_from_slice(rest);
 }
 
 // Whether an entry whose first word is there has size 0.
@@ -298,49 +240,34 @@ fn no_size(bytes: &[u8], j: usize) -> bool
     requires { j ≤ limit }
     ensures { result ≡ (leb (j + 4) (length bytes.now) && eqb (number_at 4 bytes.now j % type_bit) 0) }
 {
-    if bytes.len() < j + 4 {
-        return false;
-    }
-    word_at(bytes, j) % TYPE_BIT == 0
+    j + 4 <= bytes.len() && word_at(bytes, j) % TYPE_BIT == 0
 }
 
 // An entry that is not whole: its size is 0, or the bytes end; what there is of it is stored.
-fn part_entry(work: &mut [u8], i: usize, bytes: &[u8], pos: usize, j: usize) -> EntriesRead
+fn part_entry(work: &mut [u8], i: usize, bytes: &[u8], pos: usize, j: usize) -> Halt
     requires { (j ≤ length bytes.now) × (length bytes.now < j + 12) × (j ≤ limit) × (i + 12 ≤ length work.old) }
-    ensures { (end : ℕ) → j + 12 ≤ end → pos ≤ end → PartWalked bytes.now pos i j end work.old work.new result }
+    ensures { (end : ℕ) → j + 12 ≤ end → pos ≤ end → PartWalked bytes.now pos i j end work.old work.new (Err result) }
 {
     if no_size(bytes, j) {
         copy_word(work, i, bytes, j);
-        return EntriesRead::Bad(stop_at(11, pos, j + 4));
+        return Halt::Bad(stop_at(11, pos, j + 4));
     }
     store_rest(work, i, bytes, j);
-    EntriesRead::Ended
+    Halt::Ended
 }
 
-// An entry whose twelve bytes are there. Its words are read again after they were stored: so each is loaded and stored at once.
-fn read_entry(work: &mut [u8], i: usize, bytes: &[u8], j: usize) -> EntryTaken
+// An entry whose twelve bytes are there: its size and its duration, or none where its size is 0. Its words are read again after they were stored: so each is loaded and stored at once.
+fn read_entry(work: &mut [u8], i: usize, bytes: &[u8], j: usize) -> Option<(u64, u64)>
     requires { (i + 12 ≤ length work.old) × (j + 12 ≤ length bytes.now) }
     ensures { EntryWalked bytes.now i j work.old work.new result }
 {
     copy_word(work, i, bytes, j);
     let word = word_at(bytes, j);
-    if word == 0 {
-        return EntryTaken::Bad;
-    }
-    if word == TYPE_BIT {
-        return EntryTaken::Bad;
+    if word == 0 || word == TYPE_BIT {
+        return None;
     }
     copy_two(work, i + 4, bytes, j + 4);
-    EntryTaken::Read(word % TYPE_BIT, word_at(bytes, j + 4))
-}
-
-fn lesser(a: usize, b: usize) -> usize
-    ensures { result ≡ a - (a - b) }
-{
-    if a < b {
-        return a;
-    }
-    b
+    Some((word % TYPE_BIT, word_at(bytes, j + 4)))
 }
 
 // The entries from `from` to `end`, each byte stored as read, from `part` on in the work area.
@@ -351,7 +278,7 @@ fn read_entries(
     end: usize,
     work: &mut [u8],
     part: usize,
-) -> EntriesRead
+) -> Result<Added, Halt>
     requires { (from ≤ end) × ((end - from) % entry_bytes ≡ 0) × (end ≤ limit) × (pos ≤ end) × (from ≤ length bytes.now) × (part + (end - from) ≤ length work.old) }
     ensures { AddedWalked bytes.now pos from end part work.old work.new result }
 {
@@ -359,11 +286,11 @@ fn read_entries(
     let mut durations: u64 = 0;
     let mut i = part;
     let mut j = from;
-    let have = lesser(end, bytes.len());
+    let have = end.min(bytes.len());
     while j + 12 <= have {
         let taken = read_entry(work, i, bytes, j);
-        let EntryTaken::Read(size, duration) = taken else {
-            return EntriesRead::Bad(stop_at(11, pos, j + 4));
+        let Some((size, duration)) = taken else {
+            return Err(Halt::Bad(stop_at(11, pos, j + 4)));
         };
         sizes += size;
         durations += duration;
@@ -371,30 +298,9 @@ fn read_entries(
         j += 12;
     }
     if j < end {
-        return part_entry(work, i, bytes, pos, j);
+        return Err(part_entry(work, i, bytes, pos, j));
     }
-    EntriesRead::Read(Added { sizes, durations })
-}
-
-// What goes out where the numbers, or the entries, were not read.
-fn fields_answer(r: FieldsRead) -> IndexAnswer
-    ensures { result ≡ fields_answer r }
-{
-    match r {
-        FieldsRead::Read(_) => IndexAnswer::Ended,
-        FieldsRead::Bad(x) => IndexAnswer::Bad(x),
-        FieldsRead::Ended => IndexAnswer::Ended,
-    }
-}
-
-fn entries_answer(r: EntriesRead) -> IndexAnswer
-    ensures { result ≡ entries_answer r }
-{
-    match r {
-        EntriesRead::Read(_) => IndexAnswer::Ended,
-        EntriesRead::Bad(x) => IndexAnswer::Bad(x),
-        EntriesRead::Ended => IndexAnswer::Ended,
-    }
+    Ok(Added { sizes, durations })
 }
 
 // The index box from `pos` to `end`, whose body starts at `at`, when the time line stands at `when`.
@@ -407,19 +313,13 @@ pub fn index_walk(
     at: usize,
     end: usize,
     work: &mut [u8],
-) -> IndexAnswer
+) -> Result<IndexRead, Halt>
     requires { Shallow p × Timely p when × (pos ≤ at) × (at ≤ end) × (base + end ≤ limit) × (at ≤ length bytes.now) × (work_bytes ≤ length work.old) }
     ensures { IndexWalked p when base bytes.now pos at end work.old work.new result }
 {
     let w = wanted_at(p);
-    let numbers = read_fields(w, when, bytes, pos, at, end);
-    let FieldsRead::Read(f) = numbers else {
-        return fields_answer(numbers);
-    };
-    let entries = read_entries(bytes, pos, f.from as usize, end, work, w.part as usize);
-    let EntriesRead::Read(a) = entries else {
-        return entries_answer(entries);
-    };
+    let f = read_fields(w, when, bytes, pos, at, end)?;
+    let a = read_entries(bytes, pos, f.from as usize, end, work, w.part as usize)?;
     let x = IndexRead {
         id: f.id,
         scale: f.scale,
@@ -429,9 +329,8 @@ pub fn index_walk(
         sizes: a.sizes,
         durations: a.durations,
     };
-    let flaw = sums_flaw(p, x, when, base + (end as u64));
-    if flaw != 0 {
-        return IndexAnswer::Bad(stop_at(flaw, pos, end));
+    match sums_flaw(p, x, when, base + (end as u64)) {
+        Some(flaw) => Err(Halt::Bad(stop_at(flaw, pos, end))),
+        None => Ok(x),
     }
-    IndexAnswer::Read(x)
 }

@@ -1,5 +1,5 @@
 -- The boxes of a `traf`, from what the code reads of them: skipped bodies, a `tfhd`, and a `tfdt` by its version and its decode time.
-use Prim.Native.Nat.{ℕ, ◌+◌, ◌-◌, ◌≤◌, ◌<◌}
+use Prim.Native.Nat.{ℕ, suc, ◌+◌, ◌-◌, ◌≤◌, ◌<◌}
 use mathlib.Core.Path.{◌≡◌, refl, ap, sym, ◌∙◌}
 use mathlib.Core.List.{List, ◌++◌}
 use mathlib.Core.Bool.{Bool, true, false, not, ◌&&◌, ◌||◌}
@@ -7,11 +7,13 @@ use mathlib.Core.Logic.{◌⊎◌, inl, inr}
 use native.Mathlib.Omega.{arith}
 use lib.Dec.{eqb, ltb}
 use lib.ListN.{length, drop}
-use borrow.Author.Tests.{lt-ltb, le-ltb, eq-eqb, ne_eqb, ltb-false, eqb-true}
+use borrow.Author.Tests.{lt-ltb, le-ltb, eq-eqb, ne_eqb, ltb-false, eqb-true, eqb-false}
+use Rattle.std.specs.Prelude.{Some, None, Ok, Err, Option}
 use Rattle.basics.specs.Choose.{pick}
 use Rattle.basics.proofs.Picks.{lt_or_ge, pick_yes, pick_no}
 use Rattle.machine.specs.Faults.{shows, lowest, unless}
 use Rattle.machine.specs.Run.{Res, okay, fail, either, after, field_d, plain, skip_d}
+use Rattle.machine.specs.Heads.{box_end}
 use Rattle.machine.specs.declared.Header.{Header}
 use Rattle.machine.proofs.Kept.{Each, each_shows, each_append}
 use Rattle.machine.proofs.Runs.{after_assoc}
@@ -24,37 +26,25 @@ use Rattle.state.specs.declared.TrafPhase.{TrafPhase}
 use Rattle.state.specs.declared.TrafPhase.TheVariants as track
 use Rattle.descent.specs.Opening.{skip_to}
 use Rattle.descent.specs.Leaf.{tfhd_d, width_d, tfdt_d, traf_body_d}
-use Rattle.fields.specs.Answers.{field_at, stop_at}
-use Rattle.fields.specs.Onward.{placed, stopped, ended, from, on_field}
-use Rattle.fields.specs.declared.FieldRead.{FieldRead}
-use Rattle.fields.specs.declared.FieldRead.TheVariants as field
+use Rattle.fields.specs.Answers.{field_at, stop_at, FieldRead}
+use Rattle.fields.specs.Onward.{placed, stopped, ended, from, halted, on_field}
 use Rattle.fields.proofs.Descents.{field_there, field_ends_lem, field_descent, skip_there, skip_ends}
-use Rattle.flaws.specs.Flaws.{flaw_of}
-use Rattle.flaws.specs.Marks.{phase_of}
+use Rattle.flaws.specs.Flaws.{flaw_of, numbered}
 use Rattle.flaws.proofs.Flaws.{Placed, flaw_none, flaw_some}
-use Rattle.flaws.proofs.Places.{mark_flaws}
-use Rattle.walk_leaf.specs.Views.{seen_of, traf_so_of, walked_d}
-use Rattle.walk_leaf.specs.Walks.{with_mark, skip_walked, Headed, WalkFixed, gave_d, track_d}
-use Rattle.walk_leaf.specs.declared.Known.{Known}
-use Rattle.walk_leaf.specs.declared.Walked.TheVariants as walked
+use Rattle.flaws.proofs.Places.{traf_flaws}
+use Rattle.walk_leaf.specs.Views.{walked_d}
+use Rattle.walk_leaf.specs.Walks.{Headed, seen_at, gave_d, track_d}
+use Rattle.fields.specs.declared.Halt.TheVariants as halt
 
 -- a skipped body, from anywhere before its end
-module _ {R : Type 0} (give : Known → R) (k : Known) (base : ℕ) (s : List ℕ) (f : Flow) (at end : ℕ) (here : at ≤ length s) (before : at ≤ end) where
-  pub skip_right : walked_d give base s end f (skip_walked s end k) ≡ from left base s f (skip_to (give k) (base + end)) at
-  unfolding skip_walked walked_d
-  skip_right = by (lt_or_ge (length s) end)
-    where
-      by : (length s < end) ⊎ (end ≤ length s) → walked_d give base s end f (skip_walked s end k) ≡ from left base s f (skip_to (give k) (base + end)) at
-      by (inl h) = ap (walked_d give base s end f) (pick_yes _ _ _ (lt-ltb _ _ h)) ∙ sym (skip_ends left base s f (give k) end at here before h)
-      by (inr h) = ap (walked_d give base s end f) (pick_no _ _ _ (le-ltb _ _ h)) ∙ sym (skip_there left base s f (give k) end at here before h)
+module _ {R : Type 0} (k : R) (base : ℕ) (s : List ℕ) (f : Flow) (at end : ℕ) (here : at ≤ length s) (before : at ≤ end) where
+  pub skip_over : end ≤ length s → walked_d base s end f (Ok k) ≡ from left base s f (skip_to k (base + end)) at
+  unfolding walked_d
+  skip_over h = sym (skip_there left base s f k end at here before h)
 
-pub skip_fixed : (k : Known) (s : List ℕ) (end : ℕ) → k.any ≤ 1 → WalkFixed s end (skip_walked s end k)
-unfolding skip_walked pick
-skip_fixed k s end few = by (ltb (length s) end) refl
-  where
-    by : (t : Bool) → ltb (length s) end ≡ t → WalkFixed s end (pick t walked.Ended (walked.Over k))
-    by true e = tt
-    by false e = (ltb-false _ _ e, few)
+  pub skip_cut : length s < end → walked_d base s end f (Err halt.Ended) ≡ from left base s f (skip_to k (base + end)) at
+  unfolding walked_d halted
+  skip_cut h = sym (skip_ends left base s f k end at here before h)
 
 -- a field that is not looked at, and then one that is
 module _ {R F L : Type 0} (left : F → L) (base : ℕ) (s : List ℕ) (f : F) (k : ℕ → F → ℕ → List ℕ → Res R F L) (w v at : ℕ) (here : at ≤ length s) where
@@ -66,7 +56,7 @@ module _ {R F L : Type 0} (left : F → L) (base : ℕ) (s : List ℕ) (f : F) (
           from left base s f (field_d left plain (λ u g m cs. field_d left plain k v 0 g m cs) w 0) at ≡ on_field left base s f k (field_at s (at + w) v)
       by (inl h) =
           field_ends_lem left base s f (λ u g m cs. field_d left plain k v 0 g m cs) w at here h
-          ∙ ap (on_field left base s f k) (sym (pick_yes (ltb (length s) (at + w + v)) field.Ended _ (lt-ltb (length s) (at + w + v) (omega arith))))
+          ∙ ap (on_field left base s f k) (sym (pick_yes (ltb (length s) (at + w + v)) None _ (lt-ltb (length s) (at + w + v) (omega arith))))
       by (inr h) = field_there left base s f (λ u g m cs. field_d left plain k v 0 g m cs) w at here h ∙ field_descent left base s f k v (at + w) h
 
 -- what a skipped box gives, and what a `tfhd` gives
@@ -79,63 +69,43 @@ module _ (so : TrafSo) (end : ℕ) (f : Flow) (n : ℕ) (bs : List ℕ) where
   unfolding gave_d fall_faults unless traf_now either
   gave_headed r = after_assoc (skip_d left _ f n bs) (λ u g m cs. okay (headed r) g m cs) (gave_d so)
 
--- the mark of a `tfhd`
-pub headed_phase : (r : Bool) → phase_of (pick r 3 2) ≡ track.Headed r
-unfolding phase_of pick
-headed_phase true = refl
-headed_phase false = refl
-
--- whether a decode time is the reference track's
-pub reference_mark : (mark : ℕ) → reference (phase_of mark) ≡ eqb mark 3
-unfolding phase_of reference pick
-reference_mark mark = by (eqb mark 0) (ltb 1 mark) refl refl
-  where
-    by : (none more : Bool) → eqb mark 0 ≡ none → ltb 1 mark ≡ more → reference (pick none track.Fresh (pick more (track.Headed (eqb mark 3)) track.Timed)) ≡ eqb mark 3
-    by true more e h = sym (ne_eqb mark 3 (λ q. omega (arith, eqb-true mark 0 e)))
-    by false true e h = refl
-    by false false e h = sym (ne_eqb mark 3 (λ q. omega (arith, ltb-false 1 mark h)))
-
 -- A `tfhd`, by its track ID, which stands after the flags.
-module _ (id : ℕ) (so : Known) (base : ℕ) (s : List ℕ) (f : Flow) (at end : ℕ) (here : at ≤ length s) where
+module _ (id : ℕ) (so : TrafSo) (base : ℕ) (s : List ℕ) (f : Flow) (at end : ℕ) (here : at ≤ length s) where
   abbrev Tfhd : Res TrafSo Flow Left
-  Tfhd = after (from left base s f (tfhd_d id (base + end)) at) (gave_d (traf_so_of so))
+  Tfhd = after (from left base s f (tfhd_d id (base + end)) at) (gave_d so)
 
   abbrev then_d : ℕ → Flow → ℕ → List ℕ → Res Gave Flow Left
   then_d v g m cs = skip_to (headed (eqb v id)) (base + end) g m cs
 
   abbrev Told : FieldRead → Res TrafSo Flow Left
-  Told r = after (on_field left base s f then_d r) (gave_d (traf_so_of so))
+  Told r = after (on_field left base s f then_d r) (gave_d so)
 
   told : Tfhd ≡ Told (field_at s (at + 4) 4)
   unfolding tfhd_d
-  told = ap (λ (r : Res Gave Flow Left). after r (gave_d (traf_so_of so))) (second_field left base s f then_d 4 4 at here)
+  told = ap (λ (r : Res Gave Flow Left). after r (gave_d so)) (second_field left base s f then_d 4 4 at here)
 
-  pub tfhd_ended : field_at s (at + 4) 4 ≡ field.Ended → ended left base s f ≡ Tfhd
+  pub tfhd_ended : field_at s (at + 4) 4 ≡ None → ended left base s f ≡ Tfhd
   unfolding on_field either
   tfhd_ended e = sym (told ∙ ap Told e)
 
-  tfhd_read : {v next : ℕ} → field_at s (at + 4) 4 ≡ field.Read v next → next ≤ length s → next ≤ end →
-      walked_d traf_so_of base s end f (skip_walked s end (with_mark so (pick (eqb v id) 3 2))) ≡ Tfhd
+  -- the track ID is there: the box is then skipped
+  tfhd_read : {v next : ℕ} → field_at s (at + 4) 4 ≡ Some (v, next) → from left base s f (skip_to (record { track = track.Headed (eqb v id); seen = so.seen }) (base + end)) next ≡ Tfhd
   unfolding on_field
-  tfhd_read {v} {next} e there before =
-      skip_right traf_so_of (with_mark so (pick (eqb v id) 3 2)) base s f next end there before
-      ∙ ap (λ (p : TrafPhase). from left base s f (skip_to (record { track = p; seen = seen_of so }) (base + end)) next) (headed_phase (eqb v id))
-      ∙ sym (told ∙ ap Told e ∙ gave_headed (traf_so_of so) (base + end) f (base + next) (drop next s) (eqb v id))
+  tfhd_read {v} {next} e = sym (told ∙ ap Told e ∙ gave_headed so (base + end) f (base + next) (drop next s) (eqb v id))
 
   -- the whole box is there
-  pub tfhd_whole : {v next : ℕ} → field_at s (at + 4) 4 ≡ field.Read v next → next ≤ end → end ≤ length s →
-      walked_d traf_so_of base s end f (walked.Over (with_mark so (pick (eqb v id) 3 2))) ≡ Tfhd
-  unfolding skip_walked
-  tfhd_whole e before all = ap (walked_d traf_so_of base s end f) (sym (pick_no _ _ _ (le-ltb _ _ all))) ∙ tfhd_read e (omega arith) before
+  pub tfhd_whole : {v next : ℕ} → field_at s (at + 4) 4 ≡ Some (v, next) → next ≤ end → end ≤ length s →
+      walked_d base s end f (Ok (record { track = track.Headed (eqb v id); seen = so.seen })) ≡ Tfhd
+  tfhd_whole {v} {next} e before all = skip_over _ base s f next end (omega arith) before all ∙ tfhd_read e
 
   -- the bytes end inside the box, which has room for the track ID: they end before it, or after it
   pub tfhd_short : at + 8 ≤ end → length s < end → ended left base s f ≡ Tfhd
-  unfolding skip_walked walked_d field_at
+  unfolding walked_d halted field_at
   tfhd_short room few = by (lt_or_ge (length s) (at + 4 + 4))
     where
       by : (length s < at + 4 + 4) ⊎ (at + 4 + 4 ≤ length s) → ended left base s f ≡ Tfhd
       by (inl h) = tfhd_ended (pick_yes _ _ _ (lt-ltb _ _ h))
-      by (inr h) = ap (walked_d traf_so_of base s end f) (sym (pick_yes _ _ _ (lt-ltb _ _ few))) ∙ tfhd_read (pick_no _ _ _ (le-ltb _ _ h)) h (omega arith)
+      by (inr h) = skip_cut _ base s f (at + 4 + 4) end h (omega arith) few ∙ tfhd_read (pick_no _ _ _ (le-ltb _ _ h))
 
 unlike : {A : Type 0} → true ≡ false → A
 unlike q = let z : ◌≡◌ {A = ℕ} 0 1 = cc in absurd (omega arith)
@@ -161,27 +131,41 @@ module _ (p e v n : ℕ) where
   abbrev shown : ℕ
   shown = flaw_of (tfdt_version_faults p e v n)
 
-  pub version_high : 1 < v → shown ≡ 10
+  version_high : 1 < v → shown ≡ 10
   unfolding tfdt_version_faults flaw_of shows lowest
   version_high h = rw (lt-ltb 1 v h, ne_eqb v 0 (λ q. omega arith), ne_eqb v 1 (λ q. omega arith))
 
-  module _ (old : v ≡ 0) where
-    pub short_wrong : (e ≡ n + 7 → ⊥) → shown ≡ 6
-    unfolding tfdt_version_faults flaw_of shows lowest
-    short_wrong h = rw (old, ne_eqb e (n + 7) h)
+  pub version_old : v ≡ 0 → shown ≡ pick (eqb e (n + 7)) 0 6
+  unfolding tfdt_version_faults flaw_of shows lowest pick
+  version_old old = rw old (by (eqb e (n + 7)))
+    where
+      by : (t : Bool) → flaw_of (shows false 10 p ++ shows (true && not t || false && not (eqb e (n + 11))) 6 p) ≡ pick t 0 6
+      by true = refl
+      by false = refl
 
-    pub short_right : e ≡ n + 7 → shown ≡ 0
-    unfolding tfdt_version_faults flaw_of shows lowest
-    short_right h = rw (old, eq-eqb e (n + 7) h)
+  pub version_new : v ≡ 1 → shown ≡ pick (eqb e (n + 11)) 0 6
+  unfolding tfdt_version_faults flaw_of shows lowest pick
+  version_new one = rw one (by (eqb e (n + 11)))
+    where
+      by : (t : Bool) → flaw_of (shows false 10 p ++ shows (false && not (eqb e (n + 7)) || true && not t) 6 p) ≡ pick t 0 6
+      by true = refl
+      by false = refl
 
-  module _ (one : v ≡ 1) where
-    pub long_wrong : (e ≡ n + 11 → ⊥) → shown ≡ 6
-    unfolding tfdt_version_faults flaw_of shows lowest
-    long_wrong h = rw (one, ne_eqb e (n + 11) h)
+  pub version_told : numbered shown ≡ pick (eqb v 0) (pick (eqb e (n + 7)) None (Some 6)) (pick (eqb v 1) (pick (eqb e (n + 11)) None (Some 6)) (Some 10))
+  unfolding pick numbered
+  version_told = by (eqb v 0) (eqb v 1) refl refl
+    where
+      or_six : (t : Bool) → numbered (pick t 0 6) ≡ pick t None (Some 6)
+      or_six true = refl
+      or_six false = refl
 
-    pub long_right : e ≡ n + 11 → shown ≡ 0
-    unfolding tfdt_version_faults flaw_of shows lowest
-    long_right h = rw (one, eq-eqb e (n + 11) h)
+      by : (b c : Bool) → eqb v 0 ≡ b → eqb v 1 ≡ c → numbered shown ≡ pick b (pick (eqb e (n + 7)) None (Some 6)) (pick c (pick (eqb e (n + 11)) None (Some 6)) (Some 10))
+      by true c q r = ap numbered (version_old (eqb-true v 0 q)) ∙ or_six _
+      by false true q r = ap numbered (version_new (eqb-true v 1 r)) ∙ or_six _
+      by false false q r =
+          let a = eqb-false v 0 q in
+          let b = eqb-false v 1 r in
+          ap numbered (version_high (omega arith))
 
   pub version_placed : Each (Placed p) (tfdt_version_faults p e v n)
   unfolding tfdt_version_faults
@@ -207,6 +191,21 @@ module _ (p e v n : ℕ) where
           let some : (v ≡ 0) → ⊥ = λ q. unlike (sym (eq-eqb v 0 q) ∙ qb) in
           unlike (sym (eq-eqb v 1 (omega arith)) ∙ qc)
 
+-- the same of a header, by the length of its body
+module _ (h : Header) (v base : ℕ) (holds : h.head ≤ h.size) where
+  abbrev flaw_at : Option ℕ
+  flaw_at = numbered (flaw_of (tfdt_version_faults (base + h.pos) (box_end (placed base h)) v (base + (h.pos + h.head + 1))))
+
+  same_end : (k : ℕ) → eqb (box_end (placed base h)) (base + (h.pos + h.head + 1) + k) ≡ eqb (h.size - h.head) (suc k)
+  same_end k = by (eqb (h.size - h.head) (suc k)) refl
+    where
+      by : (t : Bool) → eqb (h.size - h.head) (suc k) ≡ t → eqb (box_end (placed base h)) (base + (h.pos + h.head + 1) + k) ≡ t
+      by true q = eq-eqb _ _ (omega (arith, eqb-true (h.size - h.head) (suc k) q))
+      by false q = ne_eqb _ _ (λ z. eqb-false (h.size - h.head) (suc k) q (omega arith))
+
+  pub flaw_told : flaw_at ≡ pick (eqb v 0) (pick (eqb (h.size - h.head) 8) None (Some 6)) (pick (eqb v 1) (pick (eqb (h.size - h.head) 12) None (Some 6)) (Some 10))
+  flaw_told = version_told (base + h.pos) (box_end (placed base h)) v (base + (h.pos + h.head + 1)) ∙ rw (same_end 7, same_end 11) refl
+
 -- A `tfdt` that starts at the position `pos` and whose body is at `at`; `r` says whether its track is the reference track.
 module _ (r : Bool) (so : TrafSo) (base : ℕ) (s : List ℕ) (f : Flow) (pos at e : ℕ) (here : at ≤ length s) where
   abbrev Tfdt : Res TrafSo Flow Left
@@ -224,11 +223,11 @@ module _ (r : Bool) (so : TrafSo) (base : ℕ) (s : List ℕ) (f : Flow) (pos at
   versioned = ap (λ (q : Res Gave Flow Left). after q (gave_d so)) (field_descent left base s f version_d 1 at here)
 
   -- its version is not there
-  pub tfdt_ended : field_at s at 1 ≡ field.Ended → ended left base s f ≡ Tfdt
+  pub tfdt_ended : field_at s at 1 ≡ None → ended left base s f ≡ Tfdt
   unfolding on_field either
   tfdt_ended q = sym (versioned ∙ ap Versioned q)
 
-  module _ {v next : ℕ} (q : field_at s at 1 ≡ field.Read v next) (there : next ≤ length s) where
+  module _ {v next : ℕ} (q : field_at s at 1 ≡ Some (v, next)) (there : next ≤ length s) where
     abbrev flaw : ℕ
     flaw = flaw_of (tfdt_version_faults (base + pos) e v (base + next))
 
@@ -260,54 +259,43 @@ module _ (r : Bool) (so : TrafSo) (base : ℕ) (s : List ℕ) (f : Flow) (pos at
         ∙ ap (λ (w : Res Gave Flow Left). after w (gave_d so))
         (flaw_none (base + pos) (λ x. fail x (left f) (base + next)) _ _ (version_placed (base + pos) e v (base + next)) z ∙ sized (eqb v 1))
 
-    pub tfdt_short : flaw ≡ 0 → field_at s (next + 3) (pick (eqb v 1) 8 4) ≡ field.Ended → ended left base s f ≡ Tfdt
+    pub tfdt_short : flaw ≡ 0 → field_at s (next + 3) (pick (eqb v 1) 8 4) ≡ None → ended left base s f ≡ Tfdt
     unfolding on_field either
     tfdt_short z g = sym (timing z ∙ ap Timed g)
 
-    pub tfdt_timed : flaw ≡ 0 → {u end : ℕ} → field_at s (next + 3) (pick (eqb v 1) 8 4) ≡ field.Read u end → from left base s f (gave_d so (timed r (base + pos) u)) end ≡ Tfdt
+    pub tfdt_timed : flaw ≡ 0 → {u end : ℕ} → field_at s (next + 3) (pick (eqb v 1) 8 4) ≡ Some (u, end) → from left base s f (gave_d so (timed r (base + pos) u)) end ≡ Tfdt
     unfolding on_field either
     tfdt_timed z g = sym (timing z ∙ ap Timed g)
 
 -- A decode time.
-module _ (so : Known) (base : ℕ) (s : List ℕ) (f : Flow) (at end v : ℕ) where
-  abbrev Time : Res TrafSo Flow Left
-  Time = from left base s f (gave_d (traf_so_of so) (timed (reference (phase_of so.mark)) (base + at) v)) end
-
+module _ (so : TrafSo) (base : ℕ) (s : List ℕ) (f : Flow) (at end v : ℕ) where
   abbrev TimeOf : Bool → Res TrafSo Flow Left
-  TimeOf r = from left base s f (gave_d (traf_so_of so) (timed r (base + at) v)) end
+  TimeOf r = from left base s f (gave_d so (timed r (base + at) v)) end
+
+  abbrev Time : Res TrafSo Flow Left
+  Time = TimeOf (reference so.track)
 
   -- of another track
-  pub time_other : (so.mark ≡ 3 → ⊥) → from left base s f (okay (traf_so_of (with_mark so 1))) end ≡ Time
-  unfolding gave_d fall_faults shows unless traf_now saw phase_of pick
-  time_other n = sym (ap TimeOf (reference_mark so.mark ∙ ne_eqb so.mark 3 n))
+  pub time_other : reference so.track ≡ false → from left base s f (okay (record { track = track.Timed; seen = so.seen })) end ≡ Time
+  unfolding gave_d fall_faults shows unless traf_now saw
+  time_other n = sym (ap TimeOf n)
 
-  module _ (m : so.mark ≡ 3) where
-    pub time_falls : v < so.last → stopped left base s f (stop_at 18 at end) ≡ Time
+  module _ (m : reference so.track ≡ true) where
+    pub time_falls : v < so.seen.last → stopped left base s f (stop_at 18 at end) ≡ Time
     unfolding gave_d fall_faults shows unless lowest
-    time_falls h = sym (ap TimeOf (reference_mark so.mark ∙ eq-eqb so.mark 3 m) ∙ rw (lt-ltb v so.last h))
+    time_falls h = sym (ap TimeOf m ∙ rw (lt-ltb v so.seen.last h))
 
-    pub time_climbs : so.last ≤ v → so.any ≤ 1 →
-        from left base s f (okay (traf_so_of (record { mark = 1; any = 1; first = pick (eqb so.any 0) v so.first; last = v }))) end ≡ Time
-    unfolding gave_d fall_faults shows unless traf_now saw phase_of pick
-    time_climbs h few =
-        sym
-        (ap TimeOf (reference_mark so.mark ∙ eq-eqb so.mark 3 m)
-        ∙ rw (le-ltb v so.last h) (ap (λ (n : ℕ). from left base s f (okay (record { track = track.Timed; seen = record { any = true; first = n; last = v } })) end) first_same))
-      where
-        first_same : pick (eqb so.any 1) so.first v ≡ pick (eqb so.any 0) v so.first
-        first_same = by (lt_or_ge so.any 1)
-          where
-            by : (so.any < 1) ⊎ (1 ≤ so.any) → pick (eqb so.any 1) so.first v ≡ pick (eqb so.any 0) v so.first
-            by (inl l) = pick_no _ _ _ (ne_eqb so.any 1 (λ q. omega arith)) ∙ sym (pick_yes _ _ _ (eq-eqb so.any 0 (omega arith)))
-            by (inr l) = pick_yes _ _ _ (eq-eqb so.any 1 (omega arith)) ∙ sym (pick_no _ _ _ (ne_eqb so.any 0 (λ q. omega arith)))
+    pub time_climbs : so.seen.last ≤ v → from left base s f (okay (record { track = track.Timed; seen = seen_at so.seen v })) end ≡ Time
+    unfolding gave_d fall_faults shows unless traf_now saw
+    time_climbs h = sym (ap TimeOf m ∙ rw (le-ltb v so.seen.last h))
 
 -- A box of a `traf`, by its type.
-module _ (id : ℕ) (so : Known) (base : ℕ) (s : List ℕ) (f : Flow) (at : ℕ) (h : Header) (head : Headed s at h) where
+module _ (id : ℕ) (so : TrafSo) (base : ℕ) (s : List ℕ) (f : Flow) (at : ℕ) (h : Header) (head : Headed s at h) where
   abbrev Track : Res TrafSo Flow Left
-  Track = from left base s f (track_d id (traf_so_of so) (placed base h)) (at + h.head)
+  Track = from left base s f (track_d id (so) (placed base h)) (at + h.head)
 
   abbrev Then : (Flow → ℕ → List ℕ → Res Gave Flow Left) → Res TrafSo Flow Left
-  Then k = after (from left base s f k (at + h.head)) (gave_d (traf_so_of so))
+  Then k = after (from left base s f k (at + h.head)) (gave_d so)
 
   -- where the box ends
   ends : base + h.pos + h.size ≡ base + (at + h.size)
@@ -316,34 +304,31 @@ module _ (id : ℕ) (so : Known) (base : ℕ) (s : List ℕ) (f : Flow) (at : �
   pub track_tfhd : h.kind ≡ tfhd → Track ≡ Then (tfhd_d id (base + (at + h.size)))
   unfolding traf_body_d
   track_tfhd e =
-      ap (λ (r : Res Gave Flow Left). after r (gave_d (traf_so_of so))) (pick_yes _ _ _ (eq-eqb h.kind tfhd e))
+      ap (λ (r : Res Gave Flow Left). after r (gave_d so)) (pick_yes _ _ _ (eq-eqb h.kind tfhd e))
       ∙ ap (λ (e : ℕ). Then (tfhd_d id e)) ends
 
-  pub track_tfdt : h.kind ≡ tfdt → Track ≡ Then (tfdt_d (reference (phase_of so.mark)) (base + at) (base + h.pos + h.size))
+  pub track_tfdt : h.kind ≡ tfdt → Track ≡ Then (tfdt_d (reference so.track) (base + at) (base + h.pos + h.size))
   unfolding traf_body_d
   track_tfdt e =
-      ap (λ (r : Res Gave Flow Left). after r (gave_d (traf_so_of so)))
+      ap (λ (r : Res Gave Flow Left). after r (gave_d so))
       (pick_no _ _ _ (ne_eqb h.kind tfhd (λ q. omega arith)) ∙ pick_yes _ _ _ (eq-eqb h.kind tfdt e))
-      ∙ ap (λ (p : ℕ). Then (tfdt_d (reference (phase_of so.mark)) (base + p) (base + h.pos + h.size))) head.pos
+      ∙ ap (λ (p : ℕ). Then (tfdt_d (reference so.track) (base + p) (base + h.pos + h.size))) head.pos
 
   -- any other is skipped
-  pub track_other : (h.kind ≡ tfhd → ⊥) → (h.kind ≡ tfdt → ⊥) → walked_d traf_so_of base s (at + h.size) f (skip_walked s (at + h.size) so) ≡ Track
+  pub track_other : (h.kind ≡ tfhd → ⊥) → (h.kind ≡ tfdt → ⊥) → from left base s f (skip_to so (base + (at + h.size))) (at + h.head) ≡ Track
   unfolding traf_body_d
   track_other a b =
-      let here = head.here in
-      let holds = head.holds in
-      skip_right traf_so_of so base s f (at + h.head) (at + h.size) here (omega arith)
-      ∙ sym
-      (ap (λ (r : Res Gave Flow Left). after r (gave_d (traf_so_of so)))
+      sym
+      (ap (λ (r : Res Gave Flow Left). after r (gave_d so))
       (pick_no _ _ _ (ne_eqb h.kind tfhd a) ∙ pick_no _ _ _ (ne_eqb h.kind tfdt b))
-      ∙ gave_nothing (traf_so_of so) (base + h.pos + h.size) f (base + (at + h.head)) (drop (at + h.head) s)
-      ∙ ap (λ (e : ℕ). from left base s f (skip_to (traf_so_of so) e) (at + h.head)) ends)
+      ∙ gave_nothing so (base + h.pos + h.size) f (base + (at + h.head)) (drop (at + h.head) s)
+      ∙ ap (λ (e : ℕ). from left base s f (skip_to so e) (at + h.head)) ends)
 
 -- a `tfhd` or a `tfdt` whose header shows no number has a body of 8 bytes
-pub body_eight : (mark : ℕ) (h : Header) → (h.kind ≡ tfhd) ⊎ (h.kind ≡ tfdt) → h.head ≤ h.size → flaw_of (traf_faults (phase_of mark) h) ≡ 0 → h.head + 8 ≤ h.size
+pub body_eight : (t : TrafPhase) (h : Header) → (h.kind ≡ tfhd) ⊎ (h.kind ≡ tfdt) → h.head ≤ h.size → flaw_of (traf_faults t h) ≡ 0 → h.head + 8 ≤ h.size
 unfolding pick
-body_eight mark h k holds none =
-    by (ltb (h.size - h.head) 8) _ refl (simp (known k) at (sym (mark_flaws mark h) ∙ none))
+body_eight t h k holds none =
+    by (ltb (h.size - h.head) 8) _ refl (simp (known k) at (sym (traf_flaws t h) ∙ none))
   where
     known : (h.kind ≡ tfhd) ⊎ (h.kind ≡ tfdt) → (eqb h.kind tfhd || eqb h.kind tfdt) ≡ true
     known (inl e) = rw (eq-eqb h.kind tfhd e)

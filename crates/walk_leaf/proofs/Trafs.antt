@@ -3,11 +3,12 @@ use Prim.Native.Nat.{ℕ, ◌+◌, ◌-◌, ◌≤◌, ◌<◌}
 use mathlib.Core.Path.{◌≡◌, refl, ap, sym, ◌∙◌}
 use mathlib.Core.List.{List, [], ◌∷◌}
 use mathlib.Core.Bool.{Bool, true, false, not, ◌&&◌}
-use mathlib.Core.Logic.{inl, inr}
 use native.Mathlib.Omega.{arith}
 use lib.Dec.{eqb, ltb}
 use lib.ListN.{length, drop, length-drop}
-use borrow.Author.Tests.{lt-ltb, le-ltb, eq-eqb, ne_eqb, eqb-true, eqb-false, ltb-true, ltb-false}
+use borrow.Author.Tests.{lt-ltb, le-ltb, eq-eqb, ne_eqb, eqb-true, eqb-false}
+use Rattle.fields.specs.declared.Halt.{Halt}
+use Rattle.std.specs.Prelude.{Result, Ok, Err}
 use Rattle.basics.specs.Choose.{pick}
 use Rattle.basics.proofs.Picks.{pick_yes, pick_no, pick_if, pick_holds}
 use Rattle.machine.specs.Faults.{refusal, shows, lowest, unless}
@@ -25,42 +26,27 @@ use Rattle.state.specs.declared.TrafPhase.{TrafPhase}
 use Rattle.state.specs.declared.TrafPhase.TheVariants as track
 use Rattle.state.specs.Flow.{Flow, Left, left}
 use Rattle.state.specs.Rows.{traf_faults}
-use Rattle.state.specs.Traf.{Gave, nothing, headed, timed, tfdt_version_faults, fall_faults, traf_now, lacking, traf_next, traf_boxes}
+use Rattle.state.specs.Traf.{Gave, nothing, headed, timed, tfdt_version_faults, fall_faults, traf_now, lacking, traf_next, traf_boxes, traf_so0}
 use Rattle.descent.specs.Opening.{skip_to}
 use Rattle.descent.specs.Leaf.{tfhd_d, width_d, tfdt_d, traf_body_d}
 use Rattle.fields.specs.Answers.{head_at, stop_at}
-use Rattle.fields.specs.Onward.{placed, stopped, ended, from}
-use Rattle.fields.specs.declared.HeadRead.{HeadRead}
-use Rattle.fields.specs.declared.HeadRead.TheVariants as head
+use Rattle.fields.specs.Onward.{placed, stopped, ended, from, halted}
 use Rattle.fields.specs.declared.Stop.{Stop}
 use Rattle.fields.proofs.Lists.{on_box, list_ended, list_stopped, list_headed}
 use Rattle.flaws.specs.Flaws.{flaw_of}
-use Rattle.flaws.specs.Marks.{phase_of}
 use Rattle.flaws.proofs.Flaws.{Placed, Beyond, beyond_placed, flaw_none, flaw_some}
 use Rattle.flaws.proofs.Places.{traf_flaws, traf_beyond}
-use Rattle.walk_leaf.specs.Views.{seen_of, traf_so_of, walked_d}
-use Rattle.walk_leaf.specs.Walks.{head_walked, with_mark, Headed, StopIn, ListFixed, gave_d, track_d, TrackWalked, flaw_stop, TrafWalked}
-use Rattle.walk_leaf.specs.declared.Known.{Known}
-use Rattle.walk_leaf.specs.declared.Walked.{Walked}
-use Rattle.walk_leaf.specs.declared.Walked.TheVariants as walked
-use Rattle.walk_leaf.proofs.Loops.{Unread, head_low, Stays, walk_stays, walk_over, beyond_high, same_placed}
+use Rattle.walk_leaf.specs.Views.{walked_d}
+use Rattle.walk_leaf.specs.Walks.{Headed, StopIn, WalkFixed, gave_d, track_d, TrackWalked, is_timed, flaw_stop, TrafWalked}
+use Rattle.walk_leaf.proofs.Loops.{head_low, walk_stays, walk_over, beyond_high, same_placed}
+use Rattle.fields.specs.declared.Halt.TheVariants as halt
 
--- what a `traf` lacks, by the mark of how far it has come
-pub lacking_mark : (p mark : ℕ) → lacking p (phase_of mark) ≡ pick (eqb mark 1) [] (shows true 16 p)
-unfolding lacking phase_of pick
-lacking_mark p mark = by (eqb mark 0) (ltb 1 mark) (eqb mark 1) refl refl refl
-  where
-    by : (a b c : Bool) → eqb mark 0 ≡ a → ltb 1 mark ≡ b → eqb mark 1 ≡ c →
-        lacking p (pick a track.Fresh (pick b (track.Headed (eqb mark 3)) track.Timed)) ≡ pick c [] (shows true 16 p)
-    by true b true qa qb qc = absurd (omega (arith, eqb-true mark 0 qa, eqb-true mark 1 qc))
-    by true b false qa qb qc = refl
-    by false true true qa qb qc = absurd (omega (arith, ltb-true 1 mark qb, eqb-true mark 1 qc))
-    by false true false qa qb qc = refl
-    by false false true qa qb qc = refl
-    by false false false qa qb qc =
-        let none = eqb-false mark 0 qa in
-        let other = eqb-false mark 1 qc in
-        absurd (omega (arith, ltb-false 1 mark qb))
+-- what a `traf` lacks, by whether it has had its decode time
+pub lacking_timed : (p : ℕ) (t : TrafPhase) → lacking p t ≡ pick (is_timed t) [] (shows true 16 p)
+unfolding lacking is_timed pick
+lacking_timed p track.Fresh = refl
+lacking_timed p (track.Headed r) = refl
+lacking_timed p track.Timed = refl
 
 -- it has no number under 16
 module _ (n : ℕ) (le : n ≤ 16) where
@@ -76,12 +62,12 @@ module _ (n : ℕ) (le : n ≤ 16) where
   beside_high false p t = tt
 
 -- 16 before 17
-flaw_beside : (flaw mark base pos at next end : ℕ) → flaw ≤ 17 →
-    lowest (refusal flaw (base + at)) (pick (eqb (base + next) (base + end)) (lacking (base + pos) (phase_of mark)) [])
-    ≡ refusal (flaw_stop flaw mark pos at end next).number (base + (flaw_stop flaw mark pos at end next).place)
+flaw_beside : (flaw : ℕ) (t : TrafPhase) (base pos at next end : ℕ) → flaw ≤ 17 →
+    lowest (refusal flaw (base + at)) (pick (eqb (base + next) (base + end)) (lacking (base + pos) t) [])
+    ≡ refusal (flaw_stop flaw t pos at end next).number (base + (flaw_stop flaw t pos at end next).place)
 unfolding flaw_stop lowest shows pick
-flaw_beside flaw mark base pos at next end few =
-    rw (same_placed base next end, lacking_mark (base + pos) mark) (by (eqb flaw 17) (eqb next end) (eqb mark 1) refl)
+flaw_beside flaw t base pos at next end few =
+    rw (same_placed base next end, lacking_timed (base + pos) t) (by (eqb flaw 17) (eqb next end) (is_timed t) refl)
   where
     by : (a b c : Bool) → eqb flaw 17 ≡ a →
         lowest (refusal flaw (base + at)) (pick b (pick c [] (shows true 16 (base + pos))) [])
@@ -93,9 +79,9 @@ flaw_beside flaw mark base pos at next end few =
     by false true true q = refl
     by false true false q = let other = eqb-false flaw 17 q in pick_no (ltb 16 flaw) _ _ (le-ltb 16 flaw (omega arith))
 
-flaw_next : (flaw mark pos at end next : ℕ) → (flaw_stop flaw mark pos at end next).count ≡ next
+flaw_next : (flaw : ℕ) (t : TrafPhase) (pos at end next : ℕ) → (flaw_stop flaw t pos at end next).count ≡ next
 unfolding flaw_stop
-flaw_next flaw mark pos at end next = pick_if _ (λ (x : Stop). x.count) _ _ next (λ e. refl) (λ e. refl)
+flaw_next flaw t pos at end next = pick_if _ (λ (x : Stop). x.count) _ _ next (λ e. refl) (λ e. refl)
 
 -- the refusals inside a box of a `traf` have no number above 16
 abbrev Any : {R : Type 0} → R → Flow → ℕ → List ℕ → Type 0
@@ -164,25 +150,25 @@ module _ (id : ℕ) (span : Span) (turns : ℕ) where
 -- The boxes of the `traf` at `pos`, which ends at `end`, from a position on.
 module _ (id : ℕ) (s : List ℕ) (pos end : ℕ) where
   -- with so many turns
-  abbrev pub rest_d : Span → Flow → ℕ → ℕ → ℕ → Known → Res Seen Flow Left
-  rest_d span f turns base at so = from left base s f (onward_d id span turns (traf_so_of so)) at
+  abbrev pub rest_d : Span → Flow → ℕ → ℕ → ℕ → TrafSo → Res Seen Flow Left
+  rest_d span f turns base at so = from left base s f (onward_d id span turns so) at
 
   -- an answer is right for them
-  abbrev pub TrafFrom : ℕ → Known → Walked → Type 0
+  abbrev pub TrafFrom : ℕ → TrafSo → Result Seen Halt → Type 0
   TrafFrom at so r =
       (base : ℕ) (span : Span) (f : Flow) (turns : ℕ) → span.pos ≡ base + pos → span.end ≡ base + end → length s - at ≤ turns →
-      walked_d seen_of base s end f r ≡ rest_d span f turns base at so
+      walked_d base s end f r ≡ rest_d span f turns base at so
 
   -- there is a box
-  module _ (at : ℕ) (so : Known) (here : at ≤ length s) (before : at < end) where
+  module _ (at : ℕ) (so : TrafSo) (here : at ≤ length s) (before : at < end) where
     abbrev phase : TrafPhase
-    phase = phase_of so.mark
+    phase = so.track
 
     module _ (base : ℕ) (span : Span) (f : Flow) (turns : ℕ) (starts : span.pos ≡ base + pos) (ends : span.end ≡ base + end) (enough : length s - at ≤ turns) where
       abbrev Rest : Res Seen Flow Left
       Rest = rest_d span f turns base at so
 
-      goes : Rest ≡ from left base s f (boxes_d (traf_boxes id span) (bodies_d id) turns (traf_so_of so)) at
+      goes : Rest ≡ from left base s f (boxes_d (traf_boxes id span) (bodies_d id) turns so) at
       unfolding go_on_d traf_next unless
       goes =
           ap (λ (z : Next TrafSo Seen). go_on_d (traf_boxes id span) (bodies_d id) (more_d id span turns) z f (base + at) (drop at s))
@@ -192,17 +178,17 @@ module _ (id : ℕ) (s : List ℕ) (pos end : ℕ) where
       high h = beyond_high h.pos _ (traf_beyond phase h)
 
       -- its header is not read
-      ends_here : head_at s at end ≡ head.Ended → Rest ≡ ended left base s f
-      ends_here e = goes ∙ list_ended (traf_boxes id span) (bodies_d id) (λ a. refl) base s (traf_so_of so) f at here end ends high turns enough e
+      ends_here : head_at s at end ≡ Err halt.Ended → Rest ≡ ended left base s f
+      ends_here e = goes ∙ list_ended (traf_boxes id span) (bodies_d id) (λ a. refl) base s so f at here end ends high turns enough e
 
-      stops_here : {x : Stop} → head_at s at end ≡ head.Bad x → Rest ≡ stopped left base s f x
+      stops_here : {x : Stop} → head_at s at end ≡ Err (halt.Bad x) → Rest ≡ stopped left base s f x
       stops_here {x} e =
           let low : x.number ≤ 16 = omega (arith, head_low s at end before e) in
-          goes ∙ list_stopped (traf_boxes id span) (bodies_d id) (λ a. refl) base s (traf_so_of so) f at here end ends high turns enough x e
+          goes ∙ list_stopped (traf_boxes id span) (bodies_d id) (λ a. refl) base s so f at here end ends high turns enough x e
           ∙ ap (λ (y : Refusal). fail y (left f) (base + x.count)) (lowest_first _ _ (beside_high x.number low (eqb (base + x.count) span.end) span.pos phase))
 
       -- its header is read
-      module _ {h : Header} (e : head_at s at end ≡ head.Read h) (hd : Headed s at h) where
+      module _ {h : Header} (e : head_at s at end ≡ Ok h) (hd : Headed s at h) where
         abbrev flaw : ℕ
         flaw = flaw_of (traf_faults phase h)
 
@@ -215,96 +201,91 @@ module _ (id : ℕ) (s : List ℕ) (pos end : ℕ) where
         abbrev Body : Res Gave Flow Left
         Body = from left base s f (traf_body_d id phase (placed base h)) (h.pos + h.head)
 
-        headed_here : Rest ≡ on_box (traf_boxes id span) (bodies_d id) (turns - 1) (traf_so_of so) (unless (traf_faults phase (placed base h)) (λ x. fail x (left f) (base + (h.pos + h.head))) Body)
-        headed_here = goes ∙ list_headed (traf_boxes id span) (bodies_d id) (λ a. refl) base s (traf_so_of so) f at here end ends high turns enough h e
+        headed_here : Rest ≡ on_box (traf_boxes id span) (bodies_d id) (turns - 1) so (unless (traf_faults phase (placed base h)) (λ x. fail x (left f) (base + (h.pos + h.head))) Body)
+        headed_here = goes ∙ list_headed (traf_boxes id span) (bodies_d id) (λ a. refl) base s so f at here end ends high turns enough h e
 
         abbrev OnBox : Res Gave Flow Left → Res Seen Flow Left
-        OnBox = on_box (traf_boxes id span) (bodies_d id) (turns - 1) (traf_so_of so)
+        OnBox = on_box (traf_boxes id span) (bodies_d id) (turns - 1) so
 
         -- a fault at H, with what shows beside it
         abbrev Fault : ℕ → ℕ → ℕ → ℕ → ℕ → Res Seen Flow Left
         Fault n p m e' p' = fail (lowest (refusal n (base + p)) (pick (eqb (base + m) e') (lacking p' phase) [])) (left f) (base + m)
 
-        flawed_here : (flaw ≡ 0 → ⊥) → Rest ≡ stopped left base s f (flaw_stop flaw so.mark pos at end (at + h.head))
+        flawed_here : (flaw ≡ 0 → ⊥) → Rest ≡ stopped left base s f (flaw_stop flaw so.track pos at end (at + h.head))
         unfolding on_box either
         flawed_here z =
-            let x : Stop = flaw_stop flaw so.mark pos at end (at + h.head) in
+            let x : Stop = flaw_stop flaw so.track pos at end (at + h.head) in
             headed_here
             ∙ ap OnBox (flaw_some (base + h.pos) (λ x. fail x (left f) (base + (h.pos + h.head))) Body _ all_here (λ y. z (sym same_flaw ∙ y)))
             ∙ ap (λ (n : ℕ). Fault n h.pos (h.pos + h.head) span.end span.pos) same_flaw
             ∙ ap (λ (p : ℕ). Fault flaw p (p + h.head) span.end span.pos) hd.pos
             ∙ ap (λ (p : ℕ). Fault flaw at (at + h.head) p span.pos) ends
             ∙ ap (λ (p : ℕ). Fault flaw at (at + h.head) (base + end) p) starts
-            ∙ ap (λ (y : Refusal). fail y (left f) (base + (at + h.head))) (flaw_beside flaw so.mark base pos at (at + h.head) end (flaw_few h.pos _ (traf_beyond phase h)))
-            ∙ ap (λ (m : ℕ). fail (refusal x.number (base + x.place)) (left f) (base + m)) (sym (flaw_next flaw so.mark pos at end (at + h.head)))
+            ∙ ap (λ (y : Refusal). fail y (left f) (base + (at + h.head))) (flaw_beside flaw so.track base pos at (at + h.head) end (flaw_few h.pos _ (traf_beyond phase h)))
+            ∙ ap (λ (m : ℕ). fail (refusal x.number (base + x.place)) (left f) (base + m)) (sym (flaw_next flaw so.track pos at end (at + h.head)))
 
-        boxed_here : flaw ≡ 0 → {r : Walked} → TrackWalked s id at h so r → Rest ≡ after (walked_d traf_so_of base s (at + h.size) f r) (onward_d id span (turns - 1))
+        boxed_here : flaw ≡ 0 → {r : Result TrafSo Halt} → TrackWalked s id at h so r → Rest ≡ after (walked_d base s (at + h.size) f r) (onward_d id span (turns - 1))
         boxed_here z told =
             headed_here
             ∙ ap OnBox (flaw_none (base + h.pos) (λ x. fail x (left f) (base + (h.pos + h.head))) Body _ all_here (same_flaw ∙ z))
-            ∙ on_track id span (turns - 1) (traf_so_of so) Body (body_low id phase (placed base h) f _ _)
-            ∙ ap (λ (p : ℕ). after (from left base s f (track_d id (traf_so_of so) (placed base h)) (p + h.head)) (onward_d id span (turns - 1))) hd.pos
+            ∙ on_track id span (turns - 1) so Body (body_low id phase (placed base h) f _ _)
+            ∙ ap (λ (p : ℕ). after (from left base s f (track_d id so (placed base h)) (p + h.head)) (onward_d id span (turns - 1))) hd.pos
             ∙ ap (λ (r : Res TrafSo Flow Left). after r (onward_d id span (turns - 1))) (sym (told.right base f))
 
-    -- what goes out where its header was not read
-    pub traf_head : (r : HeadRead) → head_at s at end ≡ r → Unread r → TrafFrom at so (head_walked r)
-    unfolding head_walked walked_d
-    traf_head (head.Read h) e (inl t) base span f turns starts ends enough = absurd (omega arith)
-    traf_head (head.Read h) e (inr t) base span f turns starts ends enough = absurd (omega arith)
-    traf_head (head.Bad x) e t base span f turns starts ends enough = sym (stops_here base span f turns starts ends enough e)
-    traf_head head.Ended e t base span f turns starts ends enough = sym (ends_here base span f turns starts ends enough e)
+    -- its header was not read
+    pub traf_head : (x : Halt) → head_at s at end ≡ Err x → TrafFrom at so (Err x)
+    unfolding walked_d halted
+    traf_head (halt.Bad x) e base span f turns starts ends enough = sym (stops_here base span f turns starts ends enough e)
+    traf_head halt.Ended e base span f turns starts ends enough = sym (ends_here base span f turns starts ends enough e)
 
-    module _ {h : Header} (e : head_at s at end ≡ head.Read h) (hd : Headed s at h) where
+    module _ {h : Header} (e : head_at s at end ≡ Ok h) (hd : Headed s at h) where
       -- where its header shows a number
-      pub traf_flawed : (flaw_of (traf_faults phase h) ≡ 0 → ⊥) → TrafFrom at so (walked.Bad (flaw_stop (flaw_of (traf_faults phase h)) so.mark pos at end (at + h.head)))
-      unfolding walked_d
+      pub traf_flawed : (flaw_of (traf_faults phase h) ≡ 0 → ⊥) → TrafFrom at so (Err (halt.Bad (flaw_stop (flaw_of (traf_faults phase h)) so.track pos at end (at + h.head))))
+      unfolding walked_d halted
       traf_flawed z base span f turns starts ends enough = sym (flawed_here base span f turns starts ends enough e hd z)
 
       -- where it is not over, and where it is
-      module _ (z : flaw_of (traf_faults phase h) ≡ 0) {r : Walked} (told : TrackWalked s id at h so r) where
-        pub traf_stays : Stays r → TrafFrom at so r
-        traf_stays t base span f turns starts ends enough =
-            walk_stays traf_so_of seen_of base s (at + h.size) end f (onward_d id span (turns - 1)) fail r t (λ x q. refl)
+      module _ (z : flaw_of (traf_faults phase h) ≡ 0) {r : Result TrafSo Halt} (told : TrackWalked s id at h so r) where
+        pub traf_stays : (x : Halt) → r ≡ Err x → TrafFrom at so (Err x)
+        traf_stays x q base span f turns starts ends enough =
+            walk_stays base s (at + h.size) end f (onward_d id span (turns - 1)) fail x q (λ y z. refl)
             ∙ sym (boxed_here base span f turns starts ends enough e hd z told)
 
-        pub traf_over : {k : Known} → r ≡ walked.Over k → (w : Walked) → TrafFrom (at + h.size) k w → TrafFrom at so w
+        pub traf_over : {k : TrafSo} → r ≡ Ok k → (w : Result Seen Halt) → TrafFrom (at + h.size) k w → TrafFrom at so w
         traf_over q w d base span f turns starts ends enough =
             let some = hd.short in
             let holds = hd.holds in
             d base span f (turns - 1) starts ends (omega arith)
-            ∙ sym (boxed_here base span f turns starts ends enough e hd z told ∙ walk_over traf_so_of seen_of base s (at + h.size) end f (onward_d id span (turns - 1)) fail q)
+            ∙ sym (boxed_here base span f turns starts ends enough e hd z told ∙ walk_over base s (at + h.size) end f (onward_d id span (turns - 1)) fail q)
 
   -- the end of the `traf`
-  module _ (so : Known) where
+  module _ (so : TrafSo) where
     closes : (base : ℕ) (span : Span) (f : Flow) (turns : ℕ) → span.pos ≡ base + pos → span.end ≡ base + end →
-        rest_d span f turns base end so ≡ unless (pick (eqb so.mark 1) [] (shows true 16 (base + pos))) (λ x. fail x (left f) (base + end)) (from left base s f (okay (seen_of so)) end)
+        rest_d span f turns base end so ≡ unless (pick (is_timed so.track) [] (shows true 16 (base + pos))) (λ x. fail x (left f) (base + end)) (from left base s f (okay so.seen) end)
     unfolding go_on_d traf_next
     closes base span f turns starts ends =
         ap (λ (z : Next TrafSo Seen). go_on_d (traf_boxes id span) (bodies_d id) (more_d id span turns) z f (base + end) (drop end s)) (pick_yes _ _ _ (eq-eqb (base + end) span.end (sym ends)))
-        ∙ ap (λ (xs : List Refusal). unless xs (λ x. fail x (left f) (base + end)) (from left base s f (okay (seen_of so)) end)) (lacking_mark span.pos so.mark)
-        ∙ ap (λ (p : ℕ). unless (pick (eqb so.mark 1) [] (shows true 16 p)) (λ x. fail x (left f) (base + end)) (from left base s f (okay (seen_of so)) end)) starts
+        ∙ ap (λ (xs : List Refusal). unless xs (λ x. fail x (left f) (base + end)) (from left base s f (okay so.seen) end)) (lacking_timed span.pos so.track)
+        ∙ ap (λ (p : ℕ). unless (pick (is_timed so.track) [] (shows true 16 p)) (λ x. fail x (left f) (base + end)) (from left base s f (okay so.seen) end)) starts
 
-    pub traf_lacks : (so.mark ≡ 1 → ⊥) → TrafFrom end so (walked.Bad (stop_at 16 pos end))
-    unfolding walked_d pick unless shows lowest
-    traf_lacks n base span f turns starts ends enough = sym (closes base span f turns starts ends ∙ rw (ne_eqb so.mark 1 n))
+    pub traf_lacks : is_timed so.track ≡ false → TrafFrom end so (Err (halt.Bad (stop_at 16 pos end)))
+    unfolding walked_d halted pick unless shows lowest
+    traf_lacks n base span f turns starts ends enough = sym (closes base span f turns starts ends ∙ rw n)
 
-    pub traf_ends_lem : so.mark ≡ 1 → TrafFrom end so (walked.Over so)
+    pub traf_ends_lem : is_timed so.track ≡ true → TrafFrom end so (Ok so.seen)
     unfolding walked_d pick unless
-    traf_ends_lem m base span f turns starts ends enough = sym (closes base span f turns starts ends ∙ rw (eq-eqb so.mark 1 m))
+    traf_ends_lem m base span f turns starts ends enough = sym (closes base span f turns starts ends ∙ rw m)
 
 -- a refusal of a header stands in the `traf`
-pub flaw_stop_in : (flaw mark pos at end next : ℕ) → flaw ≤ 17 → pos ≤ end → at ≤ end → next ≤ end → StopIn end (flaw_stop flaw mark pos at end next)
+pub flaw_stop_in : (flaw : ℕ) (t : TrafPhase) (pos at end next : ℕ) → flaw ≤ 17 → pos ≤ end → at ≤ end → next ≤ end → StopIn end (flaw_stop flaw t pos at end next)
 unfolding flaw_stop
-flaw_stop_in flaw mark pos at end next few a b c =
+flaw_stop_in flaw t pos at end next few a b c =
     pick_holds (StopIn end) _ _ _ (λ e. record { none = refl; low = omega arith; place = a; count = c }) (λ e. record { none = refl; low = omega arith; place = b; count = c })
 
 -- an answer that is right for all its boxes is right for the `traf`
-pub traf_walked : (id : ℕ) (s : List ℕ) (pos from end : ℕ) (known so : Known) (r : Walked) →
-    so ≡ with_mark known 0 → TrafFrom id s pos end from so r → ListFixed s end r → TrafWalked s id pos from end known r
-unfolding phase_of pick
-traf_walked id s pos from end known so r e d g = record {
-  right = λ base span f starts ends.
-      d base span f (length (drop from s)) starts ends (rw (length-drop from s) (omega arith))
-      ∙ ap (λ (k : Known). rest_d id s pos end span f (length (drop from s)) base from k) e;
+pub traf_walked : (id : ℕ) (s : List ℕ) (pos from end : ℕ) (seen : Seen) (r : Result Seen Halt) →
+    TrafFrom id s pos end from (traf_so0 seen) r → WalkFixed s end r → TrafWalked s id pos from end seen r
+traf_walked id s pos from end seen r d g = record {
+  right = λ base span f starts ends. d base span f (length (drop from s)) starts ends (rw (length-drop from s) (omega arith));
   fixed = g;
 }

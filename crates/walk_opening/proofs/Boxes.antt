@@ -8,6 +8,7 @@ use native.Mathlib.Omega.{arith}
 use lib.Dec.{eqb, ltb}
 use lib.ListN.{length}
 use borrow.Author.Tests.{eq-eqb, ne_eqb, lt-ltb, le-ltb}
+use Rattle.std.specs.Prelude.{Ok, Err}
 use Rattle.basics.specs.Choose.{pick}
 use Rattle.basics.proofs.Picks.{lt_or_ge, pick_yes, pick_no}
 use Rattle.segment.specs.Constants.{styp, sidx}
@@ -19,13 +20,13 @@ use Rattle.state.specs.Flow.{Flow, left}
 use Rattle.state.specs.Opening.{passed, span_of}
 use Rattle.descent.specs.Opening.{skip_to, styp_d, opening_body_d}
 use Rattle.fields.specs.Answers.{stop_at}
-use Rattle.fields.specs.Onward.{placed, from}
-use Rattle.walk_opening.specs.Views.{crossed_d}
-use Rattle.walk_opening.specs.Steps.{skipped_to, lists_brand, BoxHere, StypLong, BoxPassed}
-use Rattle.walk_opening.specs.declared.Crossed.{Crossed}
-use Rattle.walk_opening.specs.declared.Crossed.TheVariants as crosses
+use Rattle.fields.specs.Onward.{placed, from, halted}
+use Rattle.reader.specs.Skips.{skip_at}
+use Rattle.walk_opening.specs.Views.{Crossed, crossed_d}
+use Rattle.walk_opening.specs.Steps.{lists_brand, BoxHere, StypLong, BoxPassed}
 use Rattle.walk_opening.proofs.Skips.{skip_over, skip_cut}
 use Rattle.walk_opening.proofs.Brands.{styp_end, styp_there, styp_cut}
+use Rattle.fields.specs.declared.Halt.TheVariants as halt
 
 module _ (brand : ℕ) (s : List ℕ) (at end : ℕ) (h : Header) (i : BoxHere s at end h) where
   -- a `styp` in its place
@@ -39,8 +40,8 @@ module _ (brand : ℕ) (s : List ℕ) (at end : ℕ) (h : Header) (i : BoxHere s
       ap (λ (span : Span). from left base s f (styp_d brand span) (at + h.head)) q
 
   -- the bytes end before it does
-  pub styp_ended : length s < at + h.size → BoxPassed (λ g. styp_d brand (span_of g)) s at h crosses.Ended
-  unfolding crossed_d either
+  pub styp_ended : length s < at + h.size → BoxPassed (λ g. styp_d brand (span_of g)) s at h (Err halt.Ended)
+  unfolding crossed_d either halted
   styp_ended gone =
       record { right = λ base f. sym (styp_cut brand base s f at (at + h.size) (at + h.head) i.here gone) ∙ styp_placed base f; fixed = tt }
 
@@ -52,12 +53,12 @@ module _ (brand : ℕ) (s : List ℕ) (at end : ℕ) (h : Header) (i : BoxHere s
         ∙ sym (styp_there brand base s f at (at + h.size) (at + h.head) i.here there (omega arith) (omega arith))
         ∙ styp_placed base f
 
-    pub styp_listed : t ≡ true → BoxPassed (λ g. styp_d brand (span_of g)) s at h crosses.Over
-    unfolding crossed_d either
+    pub styp_listed : t ≡ true → BoxPassed (λ g. styp_d brand (span_of g)) s at h (Ok tt)
+    unfolding crossed_d either halted
     styp_listed found = record { right = λ base f. sym (pick_yes t _ _ found) ∙ styp_read base f; fixed = there }
 
-    pub styp_unlisted : t ≡ false → BoxPassed (λ g. styp_d brand (span_of g)) s at h (crosses.Bad (stop_at 8 at (at + h.size)))
-    unfolding crossed_d either
+    pub styp_unlisted : t ≡ false → BoxPassed (λ g. styp_d brand (span_of g)) s at h (Err (halt.Bad (stop_at 8 at (at + h.size))))
+    unfolding crossed_d either halted
     styp_unlisted none = record { right = λ base f. sym (pick_no t _ _ none) ∙ styp_read base f; fixed = refl }
 
   -- a `styp` by its type
@@ -66,18 +67,20 @@ module _ (brand : ℕ) (s : List ℕ) (at end : ℕ) (h : Header) (i : BoxHere s
   body_styp r k p = record { right = λ base f. p.right base f ∙ sym (pick_yes (eqb h.kind styp) _ _ (eq-eqb h.kind styp k)); fixed = p.fixed }
 
   -- a box that is neither a `styp` nor a `sidx` is skipped
-  pub body_skipped : (h.kind ≡ styp → ⊥) → (h.kind ≡ sidx → ⊥) → BoxPassed (opening_body_d brand) s at h (skipped_to s (at + h.size))
-  unfolding opening_body_d skipped_to crossed_d either
-  body_skipped no-styp no-sidx = by_length (lt_or_ge (length s) (at + h.size))
-    where
-      skipped : (base : ℕ) (f : Flow) → from left base s f (opening_body_d brand (placed base h)) (at + h.head)
-          ≡ from left base s f (λ g m cs. skip_to passed (box_end (placed base h)) g m cs) (at + h.head)
-      skipped base f = pick_no (eqb h.kind styp) _ _ (ne_eqb h.kind styp no-styp) ∙ pick_no (eqb h.kind sidx) _ _ (ne_eqb h.kind sidx no-sidx)
+  module _ (no-styp : h.kind ≡ styp → ⊥) (no-sidx : h.kind ≡ sidx → ⊥) where
+    skipped : (base : ℕ) (f : Flow) → from left base s f (opening_body_d brand (placed base h)) (at + h.head)
+        ≡ from left base s f (λ g m cs. skip_to passed (box_end (placed base h)) g m cs) (at + h.head)
+    unfolding opening_body_d
+    skipped base f = pick_no (eqb h.kind styp) _ _ (ne_eqb h.kind styp no-styp) ∙ pick_no (eqb h.kind sidx) _ _ (ne_eqb h.kind sidx no-sidx)
 
-      by_length : (length s < at + h.size) ⊎ (at + h.size ≤ length s) → BoxPassed (opening_body_d brand) s at h (pick (ltb (length s) (at + h.size)) crosses.Ended crosses.Over)
-      by_length (inl gone) =
-          rw (pick_yes (ltb (length s) (at + h.size)) crosses.Ended crosses.Over (lt-ltb _ _ gone))
-          (record { right = λ base f. sym (skipped base f ∙ skip_cut passed base s f h at i.pos i.here i.holds gone); fixed = tt })
-      by_length (inr there) =
-          rw (pick_no (ltb (length s) (at + h.size)) crosses.Ended crosses.Over (le-ltb _ _ there))
-          (record { right = λ base f. sym (skipped base f ∙ skip_over passed base s f h at i.pos i.here i.holds there); fixed = there })
+    pub body_skipped : {r : Crossed} → r ≡ skip_at s (at + h.size) → BoxPassed (opening_body_d brand) s at h r
+    unfolding skip_at crossed_d halted either
+    body_skipped e = rw e (by_length (lt_or_ge (length s) (at + h.size)))
+      where
+        by_length : (length s < at + h.size) ⊎ (at + h.size ≤ length s) → BoxPassed (opening_body_d brand) s at h (pick (ltb (length s) (at + h.size)) (Err halt.Ended) (Ok tt))
+        by_length (inl gone) =
+            rw (pick_yes {A = Crossed} (ltb (length s) (at + h.size)) (Err halt.Ended) (Ok tt) (lt-ltb _ _ gone))
+            (record { right = λ base f. sym (skipped base f ∙ skip_cut passed base s f h at i.pos i.here i.holds gone); fixed = tt })
+        by_length (inr there) =
+            rw (pick_no {A = Crossed} (ltb (length s) (at + h.size)) (Err halt.Ended) (Ok tt) (le-ltb _ _ there))
+            (record { right = λ base f. sym (skipped base f ∙ skip_over passed base s f h at i.pos i.here i.holds there); fixed = there })

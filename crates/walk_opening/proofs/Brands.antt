@@ -1,13 +1,17 @@
 -- The brands of a `styp`: whether one is among them, brand by brand, and what the descent makes of them.
 use Prim.Native.Nat.{ℕ, zero, suc, ◌+◌, ◌-◌, ◌*◌, ◌/◌, ◌%◌, ◌≤◌, ◌<◌}
 use mathlib.Core.Path.{◌≡◌, refl, ap, sym, ◌∙◌}
-use mathlib.Core.List.{List}
+use mathlib.Core.List.{List, []}
 use mathlib.Core.Bool.{Bool, true, false, not, ◌||◌}
 use mathlib.Core.Logic.{◌⊎◌, inl, inr}
 use native.Mathlib.Omega.{arith}
 use lib.Dec.{eqb}
-use lib.ListN.{length, drop, length-drop}
+use lib.ListN.{length, get_or, take, drop, length-drop}
+use lib.Seq.{drop-drop, take-take}
 use borrow.Author.Tests.{eq-eqb, ne_eqb}
+use Rattle.std.specs.Simd.{first_chunks}
+use Rattle.std.proofs.lemmas.List.{length-take-le, drop-take}
+use Rattle.basics.specs.Bytes.{number}
 use Rattle.basics.specs.Choose.{pick}
 use Rattle.basics.proofs.Picks.{lt_or_ge, pick_yes, pick_no}
 use Rattle.machine.specs.Faults.{refusal}
@@ -44,6 +48,34 @@ module _ (brand : ℕ) (s : List ℕ) where
 
     pub among_next : (word ≡ brand → ⊥) → Among (at + 4) end ≡ Among at end
     among_next other = sym (among_first at end before whole ∙ rw (ne_eqb (number_at 4 s at) brand (λ k. other (e ∙ k))))
+
+-- the brands from one position to another, as chunks
+chunk_at : (n k : ℕ) (xs : List ℕ) → k < n → get_or (first_chunks 4 n xs) k [] ≡ take 4 (drop (4 * k) xs)
+chunk_at zero k xs h = absurd (omega arith)
+chunk_at (suc n) zero xs h = refl
+chunk_at (suc n) (suc k) xs h =
+    let e : 4 + 4 * k ≡ 4 * suc k = omega arith in
+    chunk_at n k (drop 4 xs) (omega arith) ∙ ap (take 4) (drop-drop (4 * k) 4 xs ∙ ap (λ (m : ℕ). drop m xs) e)
+
+module _ (s : List ℕ) (from end : ℕ) (inside : end ≤ length s) where
+  abbrev part : List ℕ
+  part = take (end - from) (drop from s)
+
+  pub part_long : length part ≡ end - from
+  part_long = length-take-le (end - from) (drop from s) (omega (arith, length-drop from s))
+
+  pub brand_at : (n k : ℕ) (brands : List (List ℕ)) → brands ≡ first_chunks 4 n part → k < n → 4 * n ≤ end - from →
+      number_at 4 (get_or brands k []) 0 ≡ number_at 4 s (from + 4 * k)
+  brand_at n k brands e h few =
+      let q : end - from ≡ 4 * k + (end - from - 4 * k) = omega arith in
+      let at : get_or brands k [] ≡ take 4 (drop (from + 4 * k) s) =
+      ap (λ (z : List (List ℕ)). get_or z k []) e
+      ∙ chunk_at n k part h
+      ∙ ap (λ (m : ℕ). take 4 (drop (4 * k) (take m (drop from s)))) q
+      ∙ ap (take 4) (drop-take (4 * k) (end - from - 4 * k) (drop from s))
+      ∙ take-take 4 (end - from - 4 * k) (drop (4 * k) (drop from s)) (omega arith)
+      ∙ ap (take 4) (drop-drop (4 * k) from s) in
+      ap (λ (b : List ℕ). number (take 4 b)) at ∙ ap number (take-take 4 4 (drop (from + 4 * k) s) (omega arith))
 
 -- either of three
 or_assoc : (a b c : Bool) → ((a || b) || c) ≡ (a || (b || c))

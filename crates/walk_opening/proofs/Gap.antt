@@ -1,14 +1,13 @@
 -- The gap from a position to its end, box by box: what is right from a box's end on is right from its start on.
 use Prim.Native.Nat.{ℕ, ◌+◌, ◌-◌, ◌≤◌, ◌<◌}
 use mathlib.Core.Path.{◌≡◌, refl, ap, sym, ◌∙◌}
-use mathlib.Core.List.{List, [], ◌∷◌}
+use mathlib.Core.List.{List, []}
 use mathlib.Core.Bool.{Bool, true, false}
 use native.Mathlib.Omega.{arith}
 use lib.Dec.{eqb}
 use lib.ListN.{length, drop, length-drop}
 use borrow.Author.Tests.{eq-eqb, ne_eqb, eqb-true, eqb-false}
-use types.Run.{OneOf}
-use denote.Enum.Declared.{tag_of}
+use Rattle.fields.specs.declared.Halt.{Halt}
 use Rattle.basics.specs.Choose.{pick}
 use Rattle.basics.proofs.Picks.{pick_yes, pick_no, pick_both}
 use Rattle.machine.specs.Faults.{unless}
@@ -22,21 +21,17 @@ use Rattle.state.specs.Stages.{gap_next, gap_boxes}
 use Rattle.descent.specs.Opening.{skip_to}
 use Rattle.descent.specs.Whole.{gap_d}
 use Rattle.fields.specs.Answers.{head_at, stop_at}
-use Rattle.fields.specs.Onward.{placed, from}
-use Rattle.fields.specs.declared.HeadRead.{HeadRead}
-use Rattle.fields.specs.declared.HeadRead.TheVariants as head
-use Rattle.fields.specs.contracts.HeadRead.{the_type}
-use Rattle.fields.proofs.Answers.{HeadIn, head_in, not_first}
+use Rattle.fields.specs.Onward.{placed, from, halted}
+use Rattle.fields.proofs.Answers.{HeadIn, head_in}
 use Rattle.fields.proofs.Lists.{on_box, head_stop}
-use Rattle.flaws.specs.Flaws.{flaw_of}
+use Rattle.std.specs.Prelude.{Option, Some, None, Ok, Err}
+use Rattle.flaws.specs.Flaws.{flaw_of, numbered}
 use Rattle.flaws.proofs.Places.{gap_beyond}
-use Rattle.walk_opening.specs.Views.{crossed_d, GapFixed}
-use Rattle.walk_opening.specs.Steps.{head_crossed}
-use Rattle.walk_opening.specs.declared.Crossed.{Crossed}
-use Rattle.walk_opening.specs.declared.Crossed.TheVariants as crosses
+use Rattle.walk_opening.specs.Views.{Crossed, NoLeaves, crossed_d}
 use Rattle.walk_opening.proofs.Shown.{gap_placed}
 use Rattle.walk_opening.proofs.Headers.{boxes_ended, boxes_stopped, boxes_flawed, boxes_clean}
 use Rattle.walk_opening.proofs.Skips.{skip_over, skip_cut}
+use Rattle.fields.specs.declared.Halt.TheVariants as halt
 
 abbrev Went : Type 0
 Went = Res (Unit {0}) Flow Left
@@ -82,8 +77,8 @@ module _ (s : List ℕ) (end : ℕ) where
       ap (λ (t : Bool). go (pick t (over tt []) (again tt []))) (same_placed base m end) ∙ pick_both (eqb m end) go (λ r. r) _ _ _ _ refl refl
 
   -- at its end
-  pub gap_over : (at : ℕ) → at ≡ end → GapFrom at crosses.Over
-  unfolding crossed_d
+  pub gap_over : (at : ℕ) → at ≡ end → GapFrom at (Ok tt)
+  unfolding crossed_d halted
   gap_over at e base f turns enough = rw e (sym (pick_yes (eqb end end) _ _ (eq-eqb end end refl)))
 
   -- before its end
@@ -95,43 +90,42 @@ module _ (s : List ℕ) (end : ℕ) where
     in_boxes r g base f turns enough = g base f turns enough ∙ sym (pick_no (eqb at end) _ _ (ne_eqb at end apart))
 
     -- a header that was not read
-    pub gap_unread : (r : HeadRead) → head_at s at end ≡ r → OneOf (1 ∷ 2 ∷ []) (tag_of the_type r) → GapFrom at (head_crossed r) × GapFixed s end (head_crossed r)
-    unfolding head_crossed crossed_d
-    gap_unread (head.Read h) e k = not_first refl k
-    gap_unread (head.Bad x) e k = (
-      in_boxes (crosses.Bad x) (λ base f turns enough.
+    pub gap_unread : (x : Halt) → head_at s at end ≡ Err x → GapFrom at (Err x) × NoLeaves x
+    unfolding crossed_d halted
+    gap_unread (halt.Bad x) e = (
+      in_boxes (Err (halt.Bad x)) (λ base f turns enough.
           sym (boxes_stopped (gap_boxes (base + end)) gap_body_d (λ u. refl) (λ u l n. refl) tt f gap_beyond base s end refl at here turns enough x e)),
       head_stop s at end x e,
     )
-    gap_unread head.Ended e k = (
-      in_boxes crosses.Ended (λ base f turns enough.
+    gap_unread halt.Ended e = (
+      in_boxes (Err halt.Ended) (λ base f turns enough.
           sym (boxes_ended (gap_boxes (base + end)) gap_body_d (λ u. refl) (λ u l n. refl) tt f gap_beyond base s end refl at here turns enough e)),
       tt,
     )
 
     -- a header that was read
-    module _ (h : Header) (read : head_at s at end ≡ head.Read h) (flaw : ℕ) (e : flaw ≡ flaw_of (gap_faults h)) where
+    module _ (h : Header) (read : head_at s at end ≡ Ok h) (flaw : Option ℕ) (e : flaw ≡ numbered (flaw_of (gap_faults h))) where
       inside : HeadIn s at end h
       inside = head_in s at end h read
 
       -- it shows a number
-      pub gap_flawed : (flaw ≡ 0 → ⊥) → GapFrom at (crosses.Bad (stop_at flaw at (at + h.head)))
-      unfolding crossed_d
-      gap_flawed z =
-          in_boxes (crosses.Bad (stop_at flaw at (at + h.head))) (λ base f turns enough.
-          sym (boxes_flawed (gap_boxes (base + end)) gap_body_d (λ u. refl) (λ u l n. refl) tt f gap_beyond base s end refl at here turns enough h read flaw (e ∙ gap_placed base h) z))
+      pub gap_flawed : (n : ℕ) → flaw ≡ Some n → GapFrom at (Err (halt.Bad (stop_at n at (at + h.head))))
+      unfolding crossed_d halted
+      gap_flawed n z =
+          in_boxes (Err (halt.Bad (stop_at n at (at + h.head)))) (λ base f turns enough.
+          sym (boxes_flawed (gap_boxes (base + end)) gap_body_d (λ u. refl) (λ u l n. refl) tt f gap_beyond base s end refl at here turns enough h read flaw (e ∙ ap numbered (gap_placed base h)) n z))
 
-      module _ (z : flaw ≡ 0) where
+      module _ (z : flaw ≡ None) where
         clean : (base : ℕ) (f : Flow) (turns : ℕ) → length s - at ≤ turns →
             boxes_at base turns at f ≡ on_box (gap_boxes (base + end)) gap_body_d (turns - 1) tt (from left base s f (gap_body_d tt (placed base h)) (at + h.head))
         clean base f turns enough =
-            boxes_clean (gap_boxes (base + end)) gap_body_d (λ u. refl) (λ u l n. refl) tt f gap_beyond base s end refl at here turns enough h read flaw (e ∙ gap_placed base h) z
+            boxes_clean (gap_boxes (base + end)) gap_body_d (λ u. refl) (λ u l n. refl) tt f gap_beyond base s end refl at here turns enough h read flaw (e ∙ ap numbered (gap_placed base h)) z
 
         -- its body is cut off
-        pub gap_cut : length s < at + h.size → GapFrom at crosses.Ended
-        unfolding crossed_d on_box either
+        pub gap_cut : length s < at + h.size → GapFrom at (Err halt.Ended)
+        unfolding crossed_d on_box either halted
         gap_cut gone =
-            in_boxes crosses.Ended (λ base f turns enough.
+            in_boxes (Err halt.Ended) (λ base f turns enough.
             sym (clean base f turns enough
             ∙ ap (on_box (gap_boxes (base + end)) gap_body_d (turns - 1) tt) (skip_cut tt base s f h at inside.pos inside.here inside.holds gone)))
 

@@ -3,6 +3,7 @@ use Prim.Native.Nat.{ℕ, ◌+◌, ◌-◌}
 use mathlib.Core.Path.{◌≡◌, refl, ap, sym, ◌∙◌}
 use mathlib.Core.List.{List, []}
 use native.Mathlib.Omega.{arith}
+use Rattle.std.specs.Prelude.{Ok, Err}
 use Rattle.basics.proofs.Outcomes.{left_inverse_equal}
 use Rattle.basics.specs.Outcome.{Coincide, after_call}
 use Rattle.machine.specs.Faults.{refusal}
@@ -12,15 +13,13 @@ use Rattle.state.specs.declared.IndexRead.{IndexRead}
 use Rattle.state.specs.Flow.{Flow, Left, left, with_work}
 use Rattle.state.specs.Calls.{flow_of}
 use Rattle.fields.specs.declared.Stop.{Stop}
-use Rattle.walk_opening.specs.Views.{opened_d, OpeningFixed, crossed_d, GapFixed}
-use Rattle.walk_opening.specs.declared.OpeningAnswer.{OpeningAnswer}
-use Rattle.walk_opening.specs.declared.OpeningAnswer.TheVariants as opens
-use Rattle.walk_opening.specs.declared.Crossed.{Crossed}
-use Rattle.walk_opening.specs.declared.Crossed.TheVariants as crosses
+use Rattle.walk_opening.specs.Views.{OpeningAnswer, opened_d, OpeningFixed, Crossed, crossed_d, GapFixed}
+use Rattle.fields.specs.Onward.{halted}
 use Rattle.walk_opening.proofs.gap_walk.Kinds as gap_kinds
 use Rattle.walk_opening.proofs.gap_walk.Reads as gap-stated
 use Rattle.walk_opening.proofs.opening_walk.Kinds as opening-kinds
 use Rattle.walk_opening.proofs.opening_walk.Reads as opening-stated
+use Rattle.fields.specs.declared.Halt.TheVariants as halt
 
 -- a fault by its position, from its place
 abbrev stop_from : ℕ → Refusal → ℕ → Stop
@@ -35,26 +34,26 @@ stop_back base x e =
 
 -- the answer that a reading is made of
 abbrev seen_crossed : Res (Unit {0}) Flow Left → Crossed
-seen_crossed (okay r f n bs) = crosses.Over
-seen_crossed (fail x l n) = crosses.Bad (stop_from 0 x n)
-seen_crossed (cut l n) = crosses.Ended
+seen_crossed (okay r f n bs) = (Ok tt)
+seen_crossed (fail x l n) = Err (halt.Bad (stop_from 0 x n))
+seen_crossed (cut l n) = Err halt.Ended
 
 seen_crossed_lem : (s : List ℕ) (end : ℕ) (f : Flow) (r : Crossed) → GapFixed s end r → seen_crossed (crossed_d 0 s end f r) ≡ r
-unfolding crossed_d
-seen_crossed_lem s end f crosses.Over fixed = refl
-seen_crossed_lem s end f (crosses.Bad x) fixed = ap crosses.Bad (stop_back 0 x fixed)
-seen_crossed_lem s end f crosses.Ended fixed = refl
+unfolding crossed_d halted
+seen_crossed_lem s end f (Ok tt) fixed = refl
+seen_crossed_lem s end f (Err (halt.Bad x)) fixed = ap (λ (y : Stop). Err (halt.Bad y)) (stop_back 0 x fixed)
+seen_crossed_lem s end f (Err halt.Ended) fixed = refl
 
 abbrev seen_opened : ℕ → Res IndexRead Flow Left → OpeningAnswer
-seen_opened base (okay x f n bs) = opens.Read x (n - base)
-seen_opened base (fail x l n) = opens.Bad (stop_from base x n)
-seen_opened base (cut l n) = opens.Ended
+seen_opened base (okay x f n bs) = Ok (x, n - base)
+seen_opened base (fail x l n) = Err (halt.Bad (stop_from base x n))
+seen_opened base (cut l n) = Err halt.Ended
 
 seen_opened_lem : (base : ℕ) (s : List ℕ) (f : Flow) (r : OpeningAnswer) → OpeningFixed s r → seen_opened base (opened_d base s f r) ≡ r
-unfolding opened_d
-seen_opened_lem base s f (opens.Read x end) fixed = let q : base + end - base ≡ end = omega arith in ap (opens.Read x) q
-seen_opened_lem base s f (opens.Bad x) fixed = ap opens.Bad (stop_back base x fixed)
-seen_opened_lem base s f opens.Ended fixed = refl
+unfolding opened_d halted
+seen_opened_lem base s f (Ok (x, end)) fixed = let q : base + end - base ≡ end = omega arith in ap (λ (n : ℕ). Ok (x, n)) q
+seen_opened_lem base s f (Err (halt.Bad x)) fixed = ap (λ (y : Stop). Err (halt.Bad y)) (stop_back base x fixed)
+seen_opened_lem base s f (Err halt.Ended) fixed = refl
 
 -- the work area that it leaves
 abbrev work_left : Res IndexRead Flow Left → List ℕ
@@ -63,10 +62,10 @@ work_left (fail x l n) = l.work
 work_left (cut l n) = l.work
 
 work_left_lem : (base : ℕ) (s : List ℕ) (f : Flow) (work : List ℕ) (r : OpeningAnswer) → work_left (opened_d base s (with_work f work) r) ≡ work
-unfolding opened_d
-work_left_lem base s f work (opens.Read x end) = refl
-work_left_lem base s f work (opens.Bad x) = refl
-work_left_lem base s f work opens.Ended = refl
+unfolding opened_d halted
+work_left_lem base s f work (Ok (x, end)) = refl
+work_left_lem base s f work (Err (halt.Bad x)) = refl
+work_left_lem base s f work (Err halt.Ended) = refl
 
 -- of one run of bytes, with a start and an end of the gap: one answer
 pub gap_walk_once : Coincide 1 gap_kinds.ps gap_kinds.r gap-stated.Post

@@ -6,7 +6,7 @@ use native.Mathlib.Omega.{arith}
 use lib.Dec.{eqb, ltb}
 use borrow.Author.Tests.{eqb-true, eq-eqb, ltb-false}
 use Rattle.basics.specs.Choose.{pick}
-use Rattle.basics.proofs.Picks.{pick_yes, pick_no}
+use Rattle.basics.proofs.Picks.{pick_no}
 use Rattle.segment.specs.Constants.{styp, sidx}
 use Rattle.machine.specs.declared.Header.{Header}
 use Rattle.state.specs.Rows.{body_length, top_lengths, opening_faults, gap_faults}
@@ -24,18 +24,6 @@ length_none h kind e = at (eqb (flaw_of (top_lengths h)) 0) refl
     at : (t : Bool) → eqb (flaw_of (top_lengths h)) 0 ≡ t → flaw_of (top_lengths h) ≡ 0
     at true t = eqb-true (flaw_of (top_lengths h)) 0 t
     at false t = sym (pick_no (eqb (flaw_of (top_lengths h)) 0) kind _ t) ∙ e
-
--- a length's number goes before the type's
-module _ (h : Header) (n : ℕ) (e : n ≡ length_or h 0) where
-  pub length_first : (kind : ℕ) → (n ≡ 0 → ⊥) → n ≡ length_or h kind
-  length_first kind z = at (eqb (flaw_of (top_lengths h)) 0) refl
-    where
-      at : (t : Bool) → eqb (flaw_of (top_lengths h)) 0 ≡ t → n ≡ length_or h kind
-      at true t = absurd (z (e ∙ pick_yes (eqb (flaw_of (top_lengths h)) 0) 0 _ t))
-      at false t = e ∙ pick_no (eqb (flaw_of (top_lengths h)) 0) 0 _ t ∙ sym (pick_no (eqb (flaw_of (top_lengths h)) 0) kind _ t)
-
-  pub kind_next : (kind : ℕ) → n ≡ 0 → kind ≡ length_or h kind
-  kind_next kind z = sym (pick_yes (eqb (flaw_of (top_lengths h)) 0) kind _ (eq-eqb (flaw_of (top_lengths h)) 0 (length_none h 0 (sym e ∙ z))))
 
 module _ (base : ℕ) (h : Header) where
   pub gap_placed : flaw_of (gap_faults h) ≡ flaw_of (gap_faults (placed base h))

@@ -1,7 +1,7 @@
 -- What the functions of the walk answer one another: a header that was not read, a body that is skipped, brands, a box that is passed,
 -- and the header of the top index.
-use Rattle.std.specs.Prelude.{ℕ, zero, suc, ◌+◌, ◌-◌, ◌%◌, ◌≤◌, ◌≡◌, List, Bool, false, ◌||◌, eqb, ltb, length, drop}
-use Rattle.basics.specs.Choose.{pick}
+use Rattle.fields.specs.declared.Halt.{Halt}
+use Rattle.std.specs.Prelude.{ℕ, zero, suc, ◌+◌, ◌-◌, ◌%◌, ◌≤◌, ◌≡◌, List, Bool, false, ◌||◌, eqb, length, drop, Result, Ok, Err}
 use Rattle.segment.specs.Constants.{limit, sidx}
 use Rattle.machine.specs.Run.{Res, okay, after}
 use Rattle.machine.specs.Lists.{boxes_d}
@@ -14,50 +14,12 @@ use Rattle.state.specs.Opening.{OpeningGave, passed, span_of, opening}
 use Rattle.descent.specs.Sidx.{sidx_d}
 use Rattle.descent.specs.Opening.{opening_body_d}
 use Rattle.fields.specs.Answers.{number_at}
-use Rattle.fields.specs.Onward.{placed, stopped, ended, from}
-use Rattle.fields.specs.declared.HeadRead.{HeadRead}
-use Rattle.fields.specs.declared.HeadRead.TheVariants as head
-use Rattle.walk_index.specs.declared.IndexAnswer.{IndexAnswer}
-use Rattle.walk_index.specs.declared.IndexAnswer.TheVariants as answer
-use Rattle.walk_opening.specs.Views.{crossed_d, GapFixed}
-use Rattle.walk_opening.specs.declared.Crossed.{Crossed}
-use Rattle.walk_opening.specs.declared.Crossed.TheVariants as crosses
-use Rattle.walk_opening.specs.declared.OpeningAnswer.{OpeningAnswer}
-use Rattle.walk_opening.specs.declared.OpeningAnswer.TheVariants as opens
-use Rattle.walk_opening.specs.declared.Found.{Found}
-use Rattle.walk_opening.specs.declared.Found.TheVariants as founds
+use Rattle.fields.specs.Onward.{placed, from, halted}
+use Rattle.walk_opening.specs.Views.{Crossed, NoLeaves, crossed_d, GapFixed}
 
--- what goes out where a header of the gap was not read
-unfoldable pub head_crossed : HeadRead → Crossed
-head_crossed (head.Read h) = crosses.Ended
-head_crossed (head.Bad x) = crosses.Bad x
-head_crossed head.Ended = crosses.Ended
-
--- the same up to the top index, and where a box was not passed
-unfoldable pub head_found : HeadRead → Found
-head_found (head.Read h) = founds.Ended
-head_found (head.Bad x) = founds.Bad x
-head_found head.Ended = founds.Ended
-
-unfoldable pub crossed_found : Crossed → Found
-crossed_found crosses.Over = founds.Ended
-crossed_found (crosses.Bad x) = founds.Bad x
-crossed_found crosses.Ended = founds.Ended
-
--- the same of the whole opening
-unfoldable pub found_answer : Found → OpeningAnswer
-found_answer (founds.Index h) = opens.Ended
-found_answer (founds.Bad x) = opens.Bad x
-found_answer founds.Ended = opens.Ended
-
-unfoldable pub index_answer : IndexAnswer → OpeningAnswer
-index_answer (answer.Read x) = opens.Ended
-index_answer (answer.Bad x) = opens.Bad x
-index_answer answer.Ended = opens.Ended
-
--- a body that is skipped, up to a position
-unfoldable pub skipped_to : List ℕ → ℕ → Crossed
-skipped_to s end = pick (ltb (length s) end) crosses.Ended crosses.Over
+-- the header of the top index, or why none was found
+abbrev pub Found : Type 0
+Found = Result Header Halt
 
 -- whether a brand is among so many, from a position on
 unfoldable pub lists_brand : ℕ → List ℕ → ℕ → ℕ → Bool
@@ -88,14 +50,12 @@ pub record BoxPassed (body_d : Header → Flow → ℕ → List ℕ → Res Open
 
 -- the header of the top index is found, and its body follows; a refusal; or the bytes end
 unfoldable pub found_d : ℕ → List ℕ → Flow → Found → Res IndexRead Flow Left
-found_d base s f (founds.Index h) = from left base s f (sidx_d topmost (span_of (placed base h))) (h.pos + h.head)
-found_d base s f (founds.Bad x) = stopped left base s f x
-found_d base s f founds.Ended = ended left base s f
+found_d base s f (Ok h) = from left base s f (sidx_d topmost (span_of (placed base h))) (h.pos + h.head)
+found_d base s f (Err x) = halted left base s f x
 
 abbrev pub FoundFixed : List ℕ → ℕ → Found → Type 0
-FoundFixed s end (founds.Index h) = (h.kind ≡ sidx) × BoxHere s h.pos end h
-FoundFixed s end (founds.Bad x) = x.leaves ≡ 0
-FoundFixed s end founds.Ended = Unit {0}
+FoundFixed s end (Ok h) = (h.kind ≡ sidx) × BoxHere s h.pos end h
+FoundFixed s end (Err x) = NoLeaves x
 
 -- The boxes from a position up to the header of the top index are read as the descent reads them where the bytes stand, with as many
 -- turns as there are bytes left; `end` is the position of the limit.

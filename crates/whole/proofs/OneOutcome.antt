@@ -1,11 +1,12 @@
 -- The contracts of `whole` and of `whole_ending`, as the check reads them: each asks nothing, and two outcomes that it allows coincide.
+use Rattle.std.specs.Prelude.{ℕ, Result}
 use Prim.Native.Nat.{ℕ}
 use mathlib.Core.Path.{◌≡◌, refl, sym, ap, ◌∙◌}
 use mathlib.Core.List.{List}
 use Rattle.basics.specs.Outcome.{OneOutcome, after_call}
+use Rattle.machine.specs.declared.Refusal.{Refusal}
 use Rattle.state.specs.declared.State.{State}
 use Rattle.state.specs.declared.State.TheVariants as state
-use Rattle.state.specs.declared.FinishAnswer.{FinishAnswer}
 use Rattle.state.specs.Calls.{Out}
 use Rattle.whole.specs.declared.Ending.{Ending}
 use Rattle.whole.specs.declared.Ending.TheVariants as ending
@@ -22,8 +23,8 @@ whole_once = record {
   asks_nothing = λ κs given. tt;
   outcomes_coincide = λ κs given r r' left left' p q.
       let same = p ∙ sym q in (
-        ap (λ (o : Out FinishAnswer). record { answer = o.answer; state = o.state }) same,
-        ap (λ (o : Out FinishAnswer). after_call 3 whole_Kinds.ps whole_Kinds.r κs given (tt, (tt, (o.work, (o.table, tt))))) same,
+        ap (λ (o : Out (Result ℕ Refusal)). record { answer = o.answer; state = o.state }) same,
+        ap (λ (o : Out (Result ℕ Refusal)). after_call 3 whole_Kinds.ps whole_Kinds.r κs given (tt, (tt, (o.work, (o.table, tt))))) same,
       );
 }
 
@@ -57,13 +58,13 @@ module _ (brand : ℕ) (work table : List ℕ) where
 -- two endings that say the same are one, with one work area and one table
 module _ (brand : ℕ) (work work' table table' : List ℕ) (r r' : Ending) (same : ending_out brand work table r ≡ ending_out brand work' table' r') where
   one_ending : r ≡ r'
-  one_ending = sym (told_back brand work table r) ∙ ap (λ (o : Out FinishAnswer). ending_of o.state) same ∙ told_back brand work' table' r'
+  one_ending = sym (told_back brand work table r) ∙ ap (λ (o : Out (Result ℕ Refusal)). ending_of o.state) same ∙ told_back brand work' table' r'
 
   one_work : work ≡ work'
-  one_work = sym (told_work brand work table r) ∙ ap (λ (o : Out FinishAnswer). o.work) same ∙ told_work brand work' table' r'
+  one_work = sym (told_work brand work table r) ∙ ap (λ (o : Out (Result ℕ Refusal)). o.work) same ∙ told_work brand work' table' r'
 
   one_table : table ≡ table'
-  one_table = sym (told_table brand work table r) ∙ ap (λ (o : Out FinishAnswer). o.table) same ∙ told_table brand work' table' r'
+  one_table = sym (told_table brand work table r) ∙ ap (λ (o : Out (Result ℕ Refusal)). o.table) same ∙ told_table brand work' table' r'
 
 -- the same of `whole_ending`: one ending, and one work area and table after the call
 pub whole_ending_once : OneOutcome 3 ending-kinds.ps ending-kinds.r ending-stated.Pre ending-stated.Post

@@ -11,14 +11,14 @@ ghost use Rattle.state.specs.Calls.{out, whole_of};
 ghost use Rattle.machine.specs.Limit.{beyond};
 ghost use Rattle.descent.specs.Whole as defs;
 ghost use Rattle.whole.specs.declared.Ending.TheVariants as ending;
-ghost use Rattle.whole.specs.Views.{opening_out, gap_out, material_out, Fits, WithinBytes, WithinLimit, segment_read, MaterialWalked, SegmentWalked, too_long, ending_out};
+ghost use Rattle.whole.specs.Views.{unlisted, Fits, WithinBytes, WithinLimit, segment_read, MaterialWalked, SegmentWalked, too_long, ending_out};
 
-use fields::{Stop, word_at};
+use fields::{Halt, word_at};
 use machine::Refusal;
 use start::start;
-use state::{FinishAnswer, IndexRead, LIMIT, Level, State, Top};
-use walk_entries::{Reached, Went, under};
-use walk_opening::{Crossed, OpeningAnswer, gap_walk, opening_walk};
+use state::{Answered, IndexRead, LIMIT, Level, State, Top};
+use walk_entries::{Broken, Reached, under};
+use walk_opening::{gap_walk, opening_walk};
 
 const WORK_BYTES: usize = 49152;
 
@@ -26,7 +26,7 @@ const WORK_BYTES: usize = 49152;
 const LEVELS: u64 = 4;
 
 // How a whole reading ends: accepted, with what the top index says; refused, and so kept; or the work area is too short to begin. The first
-// two tell how many bytes were read and how many leaves were listed.
+// two tell how many bytes were read and how many leaves were listed. No `Result`: there are three ends, and none is handed on by `?`.
 #[derive(Clone, Copy)]
 pub enum Ending {
     Accepted(u64, u64, Top),
@@ -34,50 +34,13 @@ pub enum Ending {
     ShortWork,
 }
 
-// What the reader answers, and the state that it gives back.
-#[derive(Clone, Copy)]
-pub struct Answered {
-    pub answer: FinishAnswer,
-    pub state: State,
-}
-
-// The answer of a segment: how far its material led, and what the top index says of it; a refusal; or that the bytes end, and how many
-// leaves were listed.
-#[derive(Clone, Copy)]
-pub enum SegmentRead {
-    Done(Reached, Top),
-    Bad(Stop),
-    Ended(u64),
-}
-
-// What goes out where the opening, the gap or the material was not read.
-fn opening_refused(r: OpeningAnswer) -> SegmentRead
-    ensures { result ≡ opening_out r }
+// Why the opening or the gap was not read: no leaf is listed before.
+fn unlisted(x: Halt) -> Broken
+    ensures { result ≡ unlisted x }
 {
-    match r {
-        OpeningAnswer::Read(_, _) => SegmentRead::Ended(0),
-        OpeningAnswer::Bad(x) => SegmentRead::Bad(x),
-        OpeningAnswer::Ended => SegmentRead::Ended(0),
-    }
-}
-
-fn gap_refused(r: Crossed) -> SegmentRead
-    ensures { result ≡ gap_out r }
-{
-    match r {
-        Crossed::Over => SegmentRead::Ended(0),
-        Crossed::Bad(x) => SegmentRead::Bad(x),
-        Crossed::Ended => SegmentRead::Ended(0),
-    }
-}
-
-fn material_refused(r: Went) -> SegmentRead
-    ensures { result ≡ material_out r }
-{
-    match r {
-        Went::On(_) => SegmentRead::Ended(0),
-        Went::Bad(x) => SegmentRead::Bad(x),
-        Went::Ended(leaves) => SegmentRead::Ended(leaves),
+    match x {
+        Halt::Ended => Broken::Ended(0),
+        Halt::Bad(x) => Broken::Bad(x),
     }
 }
 
@@ -88,15 +51,12 @@ fn material_walk(
     bytes: &[u8],
     work: &mut [u8],
     table: &mut [u64],
-) -> SegmentRead
+) -> Result<(Reached, Top), Broken>
     requires { Fits x n × (n ≤ length bytes.now) × (work_bytes ≤ length work.old) }
     ensures { MaterialWalked x n bytes.now work.old table.old work.new table.new result }
 {
     let start = n + (x.offset as usize);
-    let gap = gap_walk(bytes, n, start);
-    let Crossed::Over = gap else {
-        return gap_refused(gap);
-    };
+    gap_walk(bytes, n, start).map_err(unlisted)?;
     let top = Top {
         id: x.id,
         scale: x.scale,
@@ -115,21 +75,20 @@ fn material_walk(
         end: (start as u64) + x.sizes,
         until: x.time + x.durations,
     };
-    let material = under(LEVELS, top, l, bytes, 0, from, work, table);
-    let Went::On(reached) = material else {
-        return material_refused(material);
-    };
-    SegmentRead::Done(reached, top)
+    let reached = under(LEVELS, top, l, bytes, 0, from, work, table)?;
+    Ok((reached, top))
 }
 
-fn segment_walk(brand: u64, bytes: &[u8], work: &mut [u8], table: &mut [u64]) -> SegmentRead
+fn segment_walk(
+    brand: u64,
+    bytes: &[u8],
+    work: &mut [u8],
+    table: &mut [u64],
+) -> Result<(Reached, Top), Broken>
     requires { (length bytes.now ≤ limit) × (work_bytes ≤ length work.old) }
     ensures { SegmentWalked brand bytes.now work.old table.old work.new table.new result }
 {
-    let opening = opening_walk(brand, false, bytes, 0, work);
-    let OpeningAnswer::Read(x, n) = opening else {
-        return opening_refused(opening);
-    };
+    let (x, n) = opening_walk(brand, false, bytes, 0, work).map_err(unlisted)?;
     material_walk(x, n, bytes, work, table)
 }
 
@@ -152,35 +111,26 @@ fn too_long(n: u64, leaves: u64) -> Ending
 }
 
 // What the segment comes to: `most` of its `len` bytes are within the limit.
-fn outcome(r: SegmentRead, most: u64, len: u64) -> Ending
+fn outcome(r: Result<(Reached, Top), Broken>, most: u64, len: u64) -> Ending
     requires { (most ≤ limit) × WithinLimit r }
     ensures { (brand : ℕ) (bytes work table : List ℕ) → length bytes ≡ len → most ≡ min limit (length bytes) → WithinBytes (take limit bytes) r →
         ending_out brand work table result ≡ defs.outcome (beyond (refusal 3 limit) (segment_read (take limit bytes) work table r) (drop limit bytes)) }
 {
     match r {
-        SegmentRead::Done(reached, top) => {
+        Ok((reached, top)) => {
             if reached.n < len {
                 return too_long(reached.n, reached.leaves);
             }
             Ending::Accepted(reached.n, reached.leaves, top)
         }
-        SegmentRead::Bad(x) => refused(x.number, x.place, x.count, x.leaves),
-        SegmentRead::Ended(leaves) => {
+        Err(Broken::Bad(x)) => refused(x.number, x.place, x.count, x.leaves),
+        Err(Broken::Ended(leaves)) => {
             if most < len {
                 return too_long(most, leaves);
             }
             refused(20, len, len, leaves)
         }
     }
-}
-
-fn lesser(a: usize, b: usize) -> usize
-    ensures { result ≡ min a b }
-{
-    if a < b {
-        return a;
-    }
-    b
 }
 
 // How the reading of a whole segment ends, with the brand wanted, the work area and the leaf table lent for it. A state has room for an
@@ -192,7 +142,7 @@ pub fn whole_ending(segment: &[u8], brand: [u8; 4], work: &mut [u8], table: &mut
     if work.len() < WORK_BYTES {
         return Ending::ShortWork;
     }
-    let most = lesser(LIMIT as usize, segment.len());
+    let most = (LIMIT as usize).min(segment.len());
     let read = segment_walk(word_at(&brand, 0), &segment[..most], work, table);
     outcome(read, most as u64, segment.len() as u64)
 }
@@ -205,11 +155,11 @@ pub fn whole(segment: &[u8], brand: [u8; 4], work: &mut [u8], table: &mut [u64])
     let ending = whole_ending(segment, brand, work, table);
     match ending {
         Ending::Accepted(count, leaves, top) => Answered {
-            answer: FinishAnswer::Listed(leaves),
+            answer: Ok(leaves),
             state: State::Accepted { count, leaves, top },
         },
         Ending::Refused(count, leaves, refusal) => Answered {
-            answer: FinishAnswer::Refused(refusal),
+            answer: Err(refusal),
             state: State::Refused {
                 count,
                 leaves,
@@ -217,7 +167,7 @@ pub fn whole(segment: &[u8], brand: [u8; 4], work: &mut [u8], table: &mut [u64])
             },
         },
         Ending::ShortWork => Answered {
-            answer: FinishAnswer::Refused(Refusal {
+            answer: Err(Refusal {
                 number: 1,
                 place: 0,
             }),

@@ -12,23 +12,20 @@ use Rattle.byte.proofs.limit_row.Goals as goal
 pub returns-in_default : goal.returns-in_default
 returns-in_default c =
     let a = c.args in
-    λ leaves last table. c.over_limit-over.ensures ∙ elsewhere_over a.s (flow_of leaves a.at last a.work.now table) (refusal 3 limit) (opened c.in_default.in_default-own.keys2)
+    λ leaves last table. c.over_limit.ensures ∙ elsewhere_over a.s (flow_of leaves a.at last a.work.now table) (refusal 3 limit) (opened c.in_default.in_default-own.keys2)
 
-pub read_back-read-requires : goal.read_back-read-requires
-read_back-read-requires c =
+pub read_back-requires : goal.read_back-requires
+read_back-requires c =
     let inside = entry_within c.args.s c.args.at _ _ c.in-Entry.is c.requires.1 in
     (c.requires.0, inside.0, inside.1, inside.2, omega arith)
 
-pub returns-in_default-read : goal.returns-in_default-read
-returns-in_default-read c =
+pub returns-in-None : goal.returns-in-None
+returns-in-None c =
     let a = c.args in
-    let is-entry = c.in-Entry.is in
-    λ leaves last table. altered_over a.s _ _ (flow_of leaves a.at last a.work.now table) (refusal 3 limit) _ is-entry c.read_back-read.ensures
-    c.in_default-read.is
+    λ leaves last table. altered_over a.s _ _ (flow_of leaves a.at last a.work.now table) (refusal 3 limit) _ c.in-Entry.is c.read_back.ensures c.in-None.is
 
-pub returns : goal.returns
-returns c =
+pub returns-in-Some : goal.returns-in-Some
+returns-in-Some c =
     let a = c.args in
-    let is-entry = c.in-Entry.is in
-    λ leaves last table. c.over_limit-over.ensures
-    ∙ stands_over a.s _ _ (flow_of leaves a.at last a.work.now table) (refusal 3 limit) _ is-entry c.read_back-read.ensures _ _ c.in-Stands.is
+    λ leaves last table. c.over_limit-in-Some.ensures
+    ∙ stands_over a.s _ _ (flow_of leaves a.at last a.work.now table) (refusal 3 limit) _ c.in-Entry.is c.read_back.ensures _ _ c.in-Some.is

@@ -1,22 +1,21 @@
 -- A byte is stored where the number at hand has its next byte, if its bytes are stored.
 use native.Mathlib.Omega.{arith}
 use Rattle.byte.proofs.Laws.{byte_unstored, byte_stored, byte_fits}
-use borrow.Author.Tests.{not-true, not-false}
 use Rattle.byte.proofs.store_byte.Goals as goal
-
-pub returns-then-not-x : goal.returns-then-not-x
-returns-then-not-x c =
-    let a = c.args in
-    let x = c.stage_number-x in
-    byte_unstored a.s x.result x.ensures a.b a.work.now (not-true x.result.stored c.if-not-x.true)
 
 pub bounds-work-i : goal.bounds-work-i
 bounds-work-i c =
-    let x = c.stage_number-x in
-    omega (arith, c.requires.0, byte_fits c.args.s x.result x.ensures c.args.at (not-false x.result.stored c.if-not-x.false) c.requires.1)
+    let x = c.stage_number in
+    omega (arith, c.requires.0, byte_fits c.args.s x.result x.ensures c.args.at _ c.in-Some.is c.requires.1)
 
-pub returns : goal.returns
-returns c =
+pub returns-in-Some : goal.returns-in-Some
+returns-in-Some c =
     let a = c.args in
-    let x = c.stage_number-x in
-    byte_stored a.s x.result x.ensures a.b a.work.now (not-false x.result.stored c.if-not-x.false)
+    let x = c.stage_number in
+    byte_stored a.s x.result x.ensures a.b _ a.work.now c.in-Some.is
+
+pub returns-in_default : goal.returns-in_default
+returns-in_default c =
+    let a = c.args in
+    let x = c.stage_number in
+    byte_unstored a.s x.result x.ensures a.b a.work.now c.in_default.is

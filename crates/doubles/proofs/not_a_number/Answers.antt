@@ -7,6 +7,6 @@ pub returns-then-opposite : goal.returns-then-opposite
 unfolding div neg of_bits
 returns-then-opposite c = refl
 
-pub returns : goal.returns
+pub returns-else-opposite : goal.returns-else-opposite
 unfolding div of_bits
-returns c = refl
+returns-else-opposite c = refl

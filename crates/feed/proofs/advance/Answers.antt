@@ -7,18 +7,18 @@ use Rattle.feed.proofs.advance.Goals as goal
 pub bounds-piece-at : goal.bounds-piece-at
 bounds-piece-at c =
     let a = c.args in
-    (spelled_there a.piece.now a.s a.i a.work.now _ _ _ c.requires.2 c.spell_on-m.ensures.0).1
+    (spelled_there a.piece.now a.s a.i a.work.now _ _ _ c.requires.2 c.spell_on-state.ensures.0).1
 
 pub overflow_add-result : goal.overflow_add-result
 overflow_add-result c =
     let a = c.args in
-    omega (arith, (spelled_there a.piece.now a.s a.i a.work.now _ _ _ c.requires.2 c.spell_on-m.ensures.0).1)
+    omega (arith, (spelled_there a.piece.now a.s a.i a.work.now _ _ _ c.requires.2 c.spell_on-state.ensures.0).1)
 
 pub returns-then-k-eq0 : goal.returns-then-k-eq0
 returns-then-k-eq0 c =
     let a = c.args in
-    number_and_byte a.piece.now a.s a.i a.work.now _ _ _ c.requires.2 c.spell_on-m.ensures.0 a.table.now _ _ _ c.requires.1
-    c.state_byte-next.ensures.1 c.state_byte-next.ensures.0
+    number_and_byte a.piece.now a.s a.i a.work.now _ _ _ c.requires.2 c.spell_on-state.ensures.0 a.table.now _ _ _ c.requires.1
+    c.state_byte.ensures.1 c.state_byte.ensures.0
 
 pub pass-requires : goal.pass-requires
 pass-requires c =

@@ -1,7 +1,6 @@
 -- `feed::feed_bytes` meets its contract, by that of `advance`, and by the law `fed_end`. The loop's invariant: what the rest of the piece comes
 -- to from here is what the whole piece comes to from the start.
-use Prim.Native.Nat.{◌-◌, ◌≤◌}
-use mathlib.Core.Path.{◌≡◌, refl, sym, ◌∙◌}
+use mathlib.Core.Path.{refl, sym, ◌∙◌}
 use native.Mathlib.Omega.{arith}
 use Rattle.feed.proofs.Laws.{fed_end}
 use Rattle.feed.proofs.feed_bytes.Goals as goal
@@ -9,21 +8,21 @@ use Rattle.feed.proofs.feed_bytes.Goals as goal
 pub loop-i-init : goal.loop-i-init
 loop-i-init c = (omega arith, refl, refl, c.requires.1, refl)
 
-pub advance-m-requires : goal.advance-m-requires
-advance-m-requires c =
+pub advance-state-requires : goal.advance-state-requires
+advance-state-requires c =
     let asked = c.requires in
     (omega (arith, c.loop-i.invariant.1, asked.0), c.loop-i.invariant.3, c.loop-i-test.true)
 
 pub loop-i-smaller : goal.loop-i-smaller
-loop-i-smaller c = omega (arith, c.loop-i-test.true, c.advance-m.ensures.later, c.advance-m.ensures.within)
+loop-i-smaller c = omega (arith, c.loop-i-test.true, c.advance-state.ensures.later, c.advance-state.ensures.within)
 
 pub loop-i-preserved : goal.loop-i-preserved
 loop-i-preserved c = (
-  c.advance-m.ensures.within,
-  c.advance-m.auto.work ∙ c.loop-i.invariant.1,
-  c.advance-m.auto.table ∙ c.loop-i.invariant.2,
-  c.advance-m.ensures.inside,
-  c.advance-m.ensures.same ∙ c.loop-i.invariant.4,
+  c.advance-state.ensures.within,
+  c.advance-state.auto.work ∙ c.loop-i.invariant.1,
+  c.advance-state.auto.table ∙ c.loop-i.invariant.2,
+  c.advance-state.ensures.inside,
+  c.advance-state.ensures.same ∙ c.loop-i.invariant.4,
 )
 
 pub shape_of-work : goal.shape_of-work

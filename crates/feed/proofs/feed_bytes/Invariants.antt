@@ -1,7 +1,7 @@
 -- `feed::feed_bytes` meets its contract, by that of `advance`, and by the law `fed_end`. The loop's invariant: what the rest of the piece comes
 -- to from here is what the whole piece comes to from the start.
 use Prim.Native.Nat.{◌-◌, ◌≤◌}
-use mathlib.Core.Path.{◌≡◌, refl, sym, ◌∙◌}
+use mathlib.Core.Path.{◌≡◌}
 use lib.ListN.{length, drop}
 use Rattle.state.specs.Ranges.{InRange}
 use Rattle.state.specs.Calls.{feed_state}

@@ -1,10 +1,11 @@
--- `inner::inner_byte` meets its contract, by those of `head_byte`, `inner_head`, `index_byte` and `inner_index`, and by the definitions of `box_bounds`
--- and `step_box`.
-use Prim.Native.Nat.{suc}
-use mathlib.Core.Path.{ap, ◌∙◌}
+-- `inner::inner_byte` meets its contract, by those of `head_byte`, `inner_headed` and `index_byte`, and by the definitions of `box_bounds`, `lift` and
+-- `step_box`.
 use Rattle.state.specs.Calls.{flow_of}
-use Rattle.inner.specs.Views.{head_inner, box_bounds}
+use Rattle.inner.specs.Views.{box_bounds}
+use Rattle.machine.specs.Run.{lift}
 use Rattle.machine.specs.Lists.{step_box}
+use Prim.Native.Nat.{suc}
+use Rattle.std.proofs.lemmas.Result.{err_from_is_err_and}
 use Rattle.inner.proofs.inner_byte.Goals as goal
 
 pub head_byte-requires : goal.head_byte-requires
@@ -18,18 +19,33 @@ index_byte-requires c =
     let w = rw c.in-Body.is at asked.0 in
     (w.0, asked.1, w.1, asked.2, asked.3)
 
-pub returns-in-Head : goal.returns-in-Head
-unfolding step_box
-returns-in-Head c =
-    let a = c.args in
-    λ leaves last table.
-    rw c.in-Head.is
-    (c.inner_head.ensures a.top (suc a.n) (flow_of leaves a.at last _ table)
-    ∙ ap (head_inner a.top a.slot a.depth (suc a.n)) (c.head_byte.ensures (flow_of leaves a.at last _ table)))
+pub returns-in_err-h-in-Head : goal.returns-in_err-h-in-Head
+unfolding step_box lift
+returns-in_err-h-in-Head c = λ leaves last table.
+    let p = err_from_is_err_and c.from_residual.result c.from_residual.ensures.1 in
+    rw (p.1, p.2, c.in-Head.is, ← c.head_byte.ensures (flow_of leaves c.args.at last c.args.work.now table), c.in_err-h-in-Head.was)
 
-pub returns-in-Body : goal.returns-in-Body
-unfolding step_box
-returns-in-Body c =
-    let a = c.args in
-    λ leaves last table.
-    rw (c.in-Body.is, ← c.index_byte.ensures leaves last table) (c.inner_index.ensures (flow_of leaves a.at last _ table))
+pub returns-in_err-i-in-Body : goal.returns-in_err-i-in-Body
+unfolding step_box lift
+returns-in_err-i-in-Body c = λ leaves last table.
+    let p = err_from_is_err_and c.from_residual-in_err-i-in-Body.result c.from_residual-in_err-i-in-Body.ensures.1 in
+    rw (p.1, p.2, c.in-Body.is, ← c.index_byte.ensures leaves last table, c.in_err-i-in-Body.was)
+
+pub returns-in-Going : goal.returns-in-Going
+unfolding step_box lift
+returns-in-Going c = λ leaves last table.
+    rw (c.in-Head.is, ← c.head_byte.ensures (flow_of leaves c.args.at last c.args.work.now table), c.in_ok-h-in-Head.was, c.in-Going.is)
+
+pub returns-in-Done : goal.returns-in-Done
+unfolding step_box lift
+returns-in-Done c = λ leaves last table.
+    let f = flow_of leaves c.args.at last c.args.work.now table in
+    rw (c.in-Head.is, ← c.head_byte.ensures f, c.in_ok-h-in-Head.was, c.in-Done.is) (c.inner_headed.ensures c.args.top (suc c.args.n) f)
+
+pub returns-in-Going-2 : goal.returns-in-Going-2
+unfolding step_box lift
+returns-in-Going-2 c = λ leaves last table. rw (c.in-Body.is, ← c.index_byte.ensures leaves last table, c.in_ok-i-in-Body.was, c.in-Going-2.is)
+
+pub returns-in-Done-2 : goal.returns-in-Done-2
+unfolding step_box lift
+returns-in-Done-2 c = λ leaves last table. rw (c.in-Body.is, ← c.index_byte.ensures leaves last table, c.in_ok-i-in-Body.was, c.in-Done-2.is)

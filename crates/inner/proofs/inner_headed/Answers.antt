@@ -1,30 +1,31 @@
--- `inner::inner_headed` meets its contract, by those of `inner_flaw` and `index_begin`, by the laws `headed_bad`, `headed_good`, `flawless` and
--- `inner_beyond`, and by the definition of `lift`.
-use mathlib.Core.Path.{sym, ◌∙◌}
-use native.Mathlib.Omega.{arith}
+-- `inner::inner_headed` meets its contract, by those of `box_span` and `index_begin`, by the laws `inner_shown`, `headed_box` and `the_span`, and by the
+-- definition of `lift`.
+use mathlib.Core.Path.{sym, ap, ◌∙◌}
+use Rattle.std.proofs.lemmas.Result.{err_from_is_err_and}
+use Rattle.std.specs.Option.{option_or}
 use Rattle.machine.specs.Run.{lift}
 use Rattle.state.specs.Stages.{inner_kind}
-use Rattle.flaws.proofs.Flaws.{flawless}
-use Rattle.flaws.proofs.Headed.{headed_bad, headed_good}
+use Rattle.flaws.proofs.Headed.{headed_box, the_span}
 use Rattle.flaws.proofs.Places.{inner_beyond}
+use Rattle.flaws.proofs.Shown.{inner_shown}
 use Rattle.inner.proofs.inner_headed.Goals as goal
 
-pub returns-then-flaw-ne0 : goal.returns-then-flaw-ne0
-returns-then-flaw-ne0 c =
+pub returns-in_err-span : goal.returns-in_err-span
+returns-in_err-span c =
     let a = c.args in
+    let p = err_from_is_err_and c.from_residual.result c.from_residual.ensures.1 in
+    let told = ap (option_or _) c.inner_kind_flaw.ensures ∙ inner_shown a.slot.end a.h a.depth in
     λ top m f.
-    rw (headed_bad (inner_kind top a.slot a.depth) a.h f m _ (inner_beyond a.depth a.h) c.inner_flaw-flaw.ensures c.if-flaw-ne0.true)
-
-pub overflow_add-span : goal.overflow_add-span
-overflow_add-span c =
-    let a = c.args in
-    omega (arith, (flawless a.slot.end a.h _ (inner_beyond a.depth a.h) (sym c.inner_flaw-flaw.ensures ∙ c.if-flaw-ne0.false)).1)
+    rw (p.1, p.2, headed_box (inner_kind top a.slot a.depth) a.h f m _ (inner_beyond a.depth a.h) told _ c.box_span.ensures, c.in_err-span.was)
 
 pub returns : goal.returns
 unfolding lift
 returns c =
     let a = c.args in
+    let told = ap (option_or _) c.inner_kind_flaw.ensures ∙ inner_shown a.slot.end a.h a.depth in
     λ top m f. rw (
       c.index_begin.ensures,
-      headed_good (inner_kind top a.slot a.depth) a.h f m _ (inner_beyond a.depth a.h) c.inner_flaw-flaw.ensures c.if-flaw-ne0.false,
+      headed_box (inner_kind top a.slot a.depth) a.h f m _ (inner_beyond a.depth a.h) told _ c.box_span.ensures,
+      c.in_ok-span.was,
+      the_span _ a.h _ (sym c.box_span.ensures ∙ c.in_ok-span.was),
     )

@@ -11,18 +11,18 @@ use Rattle.leap_leaf.proofs.skipped_ahead.Goals as goal
 
 module _ (c : After-passing-k) where
   -- how many bytes pass
-  passes : c.passing-k.result ≡ least (length c.args.bytes.now - c.args.i) (leaf_skips c.args.s - suc (c.args.n + c.args.i))
+  passes : c.passing-k.result ≡ least (length c.args.bytes.now - c.args.on.at) (leaf_skips c.args.on.boxes - suc (c.args.n + c.args.on.at))
   passes =
       c.passing-k.ensures
-      ∙ ap (λ (stop : ℕ). least (length c.args.bytes.now - c.args.i) (stop - suc (c.args.n + c.args.i))) c.leaf_skips.ensures
+      ∙ ap (λ (stop : ℕ). least (length c.args.bytes.now - c.args.on.at) (stop - suc (c.args.n + c.args.on.at))) c.leaf_skips.ensures
 
 pub overflow_add-result : goal.overflow_add-result
 overflow_add-result c =
     let k = (goal.at.overflow_add-result c).After-passing-k in
-    omega (arith, c.requires, passes k, least_first (length c.args.bytes.now - c.args.i) (leaf_skips c.args.s - suc (c.args.n + c.args.i)))
+    omega (arith, c.requires, passes k, least_first (length c.args.bytes.now - c.args.on.at) (leaf_skips c.args.on.boxes - suc (c.args.n + c.args.on.at)))
 
 pub returns : goal.returns
-returns c id full =
+returns c id slot full =
     let k = (goal.at.returns c).After-passing-k in
     let a = c.args in
-    from_skipped id a.slot full a.n a.bytes.now a.s a.i _ c.requires.1 (passes k)
+    from_skipped id slot full a.n a.bytes.now a.on.boxes a.on.at _ c.requires.1 (passes k)

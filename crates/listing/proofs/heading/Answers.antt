@@ -1,8 +1,8 @@
 -- `listing::heading` meets its contract, by those of `listed_line` and `refused_line`.
 use Rattle.listing.proofs.heading.Goals as goal
 
-pub returns-in-Listed : goal.returns-in-Listed
-returns-in-Listed c = rw c.in-Listed.is c.listed_line.ensures
+pub returns-in-Ok : goal.returns-in-Ok
+returns-in-Ok c = rw c.in-Ok.is c.listed_line.ensures
 
-pub returns-in-Refused : goal.returns-in-Refused
-returns-in-Refused c = rw c.in-Refused.is c.refused_line.ensures
+pub returns-in-Err : goal.returns-in-Err
+returns-in-Err c = rw c.in-Err.is c.refused_line.ensures

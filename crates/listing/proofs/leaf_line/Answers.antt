@@ -13,11 +13,11 @@ with_decimal-requires c = omega (arith, line_length [] c.starting.ensures)
 
 pub with_numbers-requires : goal.with_numbers-requires
 with_numbers-requires c =
-    let six = ap length c.numbers_of-numbers.ensures in
+    let six = ap length c.numbers_of.ensures in
     omega (arith, line_length [] c.starting.ensures, decimal_length 20 c.args.number)
 
 pub returns : goal.returns
 returns c =
     let number = c.args.number in
     c.with_numbers.ensures.holds (decimal number) (c.with_decimal.ensures.holds [] c.starting.ensures)
-    ∙ ap (λ (ns : List ℕ). line_of (decimal number ++ spaced ns)) c.numbers_of-numbers.ensures
+    ∙ ap (λ (ns : List ℕ). line_of (decimal number ++ spaced ns)) c.numbers_of.ensures

@@ -1,11 +1,11 @@
 -- `lookup::look_beyond` meets its contract, by that of `covers_beyond`, by the laws of a place (`Turns`), and by `outside_past`: no record starts at
 -- 2^64 ticks or later, since a start has 64 bits.
-use Prim.Native.Nat.{◌+◌, ◌^◌, ◌*◌, ◌-◌}
+use Prim.Native.Nat.{◌+◌, ◌^◌}
 use mathlib.Core.Path.{sym, ◌∙◌}
 use native.Mathlib.Omega.{arith}
 use Rattle.moment.specs.Moments.{tick}
 use Rattle.lookup.proofs.Passing.{outside_past}
-use Rattle.lookup.proofs.Turns.{Stands, first_place, place_found, next_place, last_place}
+use Rattle.lookup.proofs.Turns.{first_place, place_found, next_place, last_place}
 use Rattle.lookup.proofs.look_beyond.Goals as goal
 
 pub loop-at-init : goal.loop-at-init

@@ -1,9 +1,8 @@
 -- `lookup::look_in` meets its contract, by those of `covers_at` and `outside_list`, and by the laws of a place (`Turns`).
-use Prim.Native.Nat.{◌*◌, ◌-◌}
 use mathlib.Core.Path.{sym, ◌∙◌}
 use native.Mathlib.Omega.{arith}
 use Rattle.moment.specs.Moments.{tick}
-use Rattle.lookup.proofs.Turns.{Stands, first_place, place_found, next_place, last_place}
+use Rattle.lookup.proofs.Turns.{first_place, place_found, next_place, last_place}
 use Rattle.lookup.proofs.look_in.Goals as goal
 
 pub loop-at-init : goal.loop-at-init

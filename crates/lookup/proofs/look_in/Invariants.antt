@@ -2,7 +2,7 @@
 use Prim.Native.Nat.{◌*◌, ◌-◌}
 use Rattle.table.specs.Table.{record_numbers}
 use Rattle.moment.specs.Moments.{tick}
-use Rattle.lookup.proofs.Turns.{Stands, first_place, place_found, next_place, last_place}
+use Rattle.lookup.proofs.Turns.{Stands}
 use Rattle.lookup.proofs.look_in.Given as goal
 
 abbrev pub invariant-loop-at : goal.invariant-loop-at

@@ -7,5 +7,5 @@ use Rattle.lookup.proofs.not_accepted.Goals as goal
 pub returns-then-in_range : goal.returns-then-in_range
 returns-then-in_range c = sym (pick_yes (in_range c.args.s) _ _ (sym c.in_range.ensures ∙ c.if-in_range.true))
 
-pub returns : goal.returns
-returns c = sym (pick_no (in_range c.args.s) _ _ (sym c.in_range.ensures ∙ c.if-in_range.false))
+pub returns-else-in_range : goal.returns-else-in_range
+returns-else-in_range c = sym (pick_no (in_range c.args.s) _ _ (sym c.in_range.ensures ∙ c.if-in_range.false))

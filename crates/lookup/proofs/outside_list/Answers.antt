@@ -9,12 +9,12 @@ returns-then-leaves-eq0 c =
     let a = c.args in
     sym (outside_none a.leaves a.table.now (tick a.t) c.if-leaves-eq0.true)
 
-pub returns-then-t-start : goal.returns-then-t-start
-returns-then-t-start c =
+pub returns-then-t-table : goal.returns-then-t-table
+returns-then-t-table c =
     let a = c.args in
-    sym (outside_before a.leaves a.table.now a.t c.if-leaves-eq0.false c.if-t-start.true)
+    sym (outside_before a.leaves a.table.now a.t c.if-leaves-eq0.false c.if-t-table.true)
 
-pub returns : goal.returns
-returns c =
+pub returns-else-t-table : goal.returns-else-t-table
+returns-else-t-table c =
     let a = c.args in
-    sym (outside_past a.leaves a.table.now a.t c.if-t-start.false)
+    sym (outside_past a.leaves a.table.now a.t c.if-t-table.false)

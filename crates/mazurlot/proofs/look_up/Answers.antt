@@ -1,8 +1,9 @@
 -- `mazurlot::look_up` meets its contract, by those of `look` and `say_found`, and by the law `spot_told`.
+use Rattle.std.specs.Prelude.{Result}
+use Rattle.machine.specs.declared.Refusal.{Refusal}
 use mathlib.Core.Path.{◌≡◌, refl, ap, ◌∙◌}
 use borrow.Author.Tests.{lt-ltb, le-ltb}
 use Rattle.basics.specs.Choose.{pick}
-use Rattle.covering.specs.declared.LookupAnswer.{LookupAnswer}
 use Rattle.mazurlot.specs.Answers.{of_lookup}
 use Rattle.numbered.specs.Unpacked.{unpack_of}
 use Rattle.lookup.specs.Spots.{OnRecord, answer_at}
@@ -11,6 +12,7 @@ use Rattle.mazurlot.proofs.Laws.{same_call, spot_told}
 use mathlib.Core.List.{[]}
 use Rattle.mazurlot.proofs.look_up.Goals.{After-look-spot}
 use Rattle.mazurlot.proofs.look_up.Goals as goal
+use Rattle.covering.specs.declared.Leaf.{Leaf}
 
 -- the spot that was looked for, as what it stands for
 found : (c : After-look-spot) → let args = c.args in
@@ -34,4 +36,4 @@ returns c =
     let k = (goal.at.returns c).After-look-spot in
     let slot = c.args.answer.now in
     rw (le-ltb _ _ c.if-answer-lt-LOOKUP_VALUES.false)
-    (same_call c.say_found.ensures.0 c.say_found.ensures.1 refl ∙ ap (λ (a : LookupAnswer). saying (of_lookup a) slot [] [] []) (found k).1)
+    (same_call c.say_found.ensures.0 c.say_found.ensures.1 refl ∙ ap (λ (a : Result Leaf Refusal). saying (of_lookup a) slot [] [] []) (found k).1)

@@ -1,9 +1,10 @@
 -- `mazurlot::mazurlot_whole` meets its contract, by those of `brand_bytes`, `whole_ending` and `say_ending`.
+use Rattle.std.specs.Prelude.{ℕ, Result}
 use Prim.Native.Nat.{ℕ}
-use mathlib.Core.Path.{◌≡◌, sym, ap, ◌∙◌}
+use mathlib.Core.Path.{sym, ap, ◌∙◌}
 use borrow.Author.Tests.{lt-ltb, le-ltb, eq-eqb, ne_eqb}
 use Rattle.basics.specs.Choose.{pick}
-use Rattle.state.specs.declared.FinishAnswer.{FinishAnswer}
+use Rattle.machine.specs.declared.Refusal.{Refusal}
 use Rattle.state.specs.Calls.{Out, whole_of}
 use Rattle.whole.specs.Views.{ending_out}
 use Rattle.mazurlot.specs.Calls.{read, whole_call}
@@ -24,7 +25,7 @@ returns c =
     let named = c.brand_bytes.ensures in
     rw (le-ltb _ _ c.if-answer-lt-ONE_VALUE.false, eq-eqb _ _ c.if-state-ne-STATE_NUMBERS.false)
     (c.say_ending.ensures c.whole_ending-ending.new.work c.whole_ending-ending.new.table
-    ∙ ap (λ (o : Out FinishAnswer). read o args.answer.now)
+    ∙ ap (λ (o : Out (Result ℕ Refusal)). read o args.answer.now)
     (ap (λ (b : ℕ). ending_out b c.whole_ending-ending.new.work c.whole_ending-ending.new.table c.whole_ending-ending.result) (sym named)
     ∙ c.whole_ending-ending.ensures
     ∙ ap (λ (b : ℕ). whole_of b args.segment.now args.work.now args.table.now) named))

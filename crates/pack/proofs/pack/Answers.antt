@@ -1,4 +1,4 @@
--- `pack::pack` meets its contract, by those of `numbers_of` and `write_over`.
+-- `pack::pack` meets its contract, by those of `numbers_of` and `copy_from_slice`.
 use mathlib.Core.Path.{◌∙◌}
 use borrow.Author.Tests.{eq-eqb, ne_eqb}
 use Rattle.basics.specs.Choose.{pick}
@@ -14,4 +14,4 @@ pub returns : goal.returns
 unfolding pack_answer pack_of pick
 returns c =
     let long = eq-eqb _ _ c.if-numbers-ne-STATE_NUMBERS.false in
-    (rw long, rw long (c.write_over.ensures ∙ c.numbers_of-packed.ensures))
+    (rw long, rw long (c.copy_from_slice.ensures.after ∙ c.numbers_of.ensures))

@@ -1,6 +1,6 @@
--- `range::counts_fit` meets its contract, by those of `at_most` and `both`, and by the law `joined`.
-use Rattle.range.proofs.Joined.{joined}
+-- `range::counts_fit` meets its contract, by the laws `joined` and `one`.
+use Rattle.range.proofs.Joined.{one, joined}
 use Rattle.range.proofs.counts_fit.Goals as goal
 
 pub returns : goal.returns
-returns c = joined _ _ c.both.ensures c.at_most.ensures c.at_most-2.ensures
+returns c = joined _ _ (one _ _) (one _ _)

@@ -1,7 +1,6 @@
--- `range::draft_fits` meets its contract, by those of `less`, `at_most` and `both`, and by the laws `joined` and `joined_first`.
-use Rattle.range.proofs.Joined.{joined, joined_first}
-use borrow.Author.Rules.{rules}
+-- `range::draft_fits` meets its contract, by the laws `joined`, `one` and `one_below`.
+use Rattle.range.proofs.Joined.{one, one_below, joined}
 use Rattle.range.proofs.draft_fits.Goals as goal
 
 pub returns : goal.returns
-returns c = search (rules, joined, joined_first)
+returns c = joined _ _ (joined _ _ (one_below _ _) (one _ _)) (one_below _ _)

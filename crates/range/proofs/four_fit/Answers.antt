@@ -1,9 +1,10 @@
--- `range::four_fit` meets its contract, by those of `at_most`, `both` and `level_fits`, by the laws `joined` and `joined_first`, and by the definition of `levels_bounds`.
+-- `range::four_fit` meets its contract, by that of `level_fits`, by the laws `joined` and `one`, and by the definition of `levels_bounds`.
 use Rattle.state.specs.Ranges.{levels_bounds}
-use Rattle.range.proofs.Joined.{joined, joined_first}
-use borrow.Author.Rules.{rules}
+use Rattle.range.proofs.Joined.{one, joined}
 use Rattle.range.proofs.four_fit.Goals as goal
 
 pub returns : goal.returns
 unfolding levels_bounds
-returns c = search (rules, joined, joined_first) depth 9
+returns c =
+    let untils = joined _ _ (joined _ _ (one _ _) (one _ _)) (one _ _) in
+    joined _ _ (joined _ _ (joined _ _ (joined _ _ c.level_fits.ensures c.level_fits-2.ensures) c.level_fits-3.ensures) c.level_fits-4.ensures) untils

@@ -1,7 +1,6 @@
--- `range::gap_stage_fits` meets its contract, by those of `at_most`, `gap_fits`, `both`, `top_fits` and `level_fits`, and by the laws `joined` and `joined_first`.
-use Rattle.range.proofs.Joined.{joined, joined_first}
-use borrow.Author.Rules.{rules}
+-- `range::gap_stage_fits` meets its contract, by those of `top_fits`, `level_fits` and `gap_fits`, and by the laws `joined` and `one`.
+use Rattle.range.proofs.Joined.{one, joined}
 use Rattle.range.proofs.gap_stage_fits.Goals as goal
 
 pub returns : goal.returns
-returns c = search (rules, joined, joined_first)
+returns c = joined _ _ (joined _ _ (joined _ _ c.top_fits.ensures c.level_fits.ensures) (one _ _)) c.gap_fits.ensures

@@ -1,6 +1,6 @@
--- `range::head_number_fits` meets its contract, by those of `at_most`, `spelling_fits` and `both`, and by the law `joined`.
-use Rattle.range.proofs.Joined.{joined}
+-- `range::head_number_fits` meets its contract, by that of `spelling_fits`, and by the laws `joined` and `one`.
+use Rattle.range.proofs.Joined.{one, joined}
 use Rattle.range.proofs.head_number_fits.Goals as goal
 
 pub returns : goal.returns
-returns c = joined _ _ c.both.ensures c.at_most.ensures c.spelling_fits.ensures
+returns c = joined _ _ (one _ _) c.spelling_fits.ensures

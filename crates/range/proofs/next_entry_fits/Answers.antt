@@ -1,7 +1,6 @@
--- `range::next_entry_fits` meets its contract, by those of `inmost`, `less`, `at_most` and `both`, and by the laws `joined` and `joined_first`.
-use Rattle.range.proofs.Joined.{joined, joined_first}
-use borrow.Author.Rules.{rules}
+-- `range::next_entry_fits` meets its contract, by that of `inmost`, and by the laws `joined`, `one` and `one_below`.
+use Rattle.range.proofs.Joined.{one, one_below, joined}
 use Rattle.range.proofs.next_entry_fits.Goals as goal
 
 pub returns : goal.returns
-returns c = rw (← c.inmost-inner.ensures) (search (rules, joined, joined_first))
+returns c = rw (← c.inmost-inner.ensures) (joined _ _ (one_below _ _) (one _ _))

@@ -1,7 +1,6 @@
--- `range::slot_fits` meets its contract, by those of `inmost`, `at_most` and `both`, and by the laws `joined` and `joined_first`.
-use Rattle.range.proofs.Joined.{joined, joined_first}
-use borrow.Author.Rules.{rules}
+-- `range::slot_fits` meets its contract, by that of `inmost`, and by the laws `joined` and `one`.
+use Rattle.range.proofs.Joined.{one, joined}
 use Rattle.range.proofs.slot_fits.Goals as goal
 
 pub returns : goal.returns
-returns c = rw (← c.inmost-inner.ensures) (search (rules, joined, joined_first))
+returns c = rw (← c.inmost-inner.ensures) (joined _ _ (joined _ _ (one _ _) (one _ _)) (one _ _))

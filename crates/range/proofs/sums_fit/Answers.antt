@@ -1,4 +1,4 @@
--- `range::sums_fit` meets its contract, by those of `sizes_summed`, `durations_summed`, `at_most` and `both`, and by the laws `first_holds`, `first_fails`, `joined`, `sizes_read_low` and
+-- `range::sums_fit` meets its contract, by those of `sizes_summed` and `durations_summed`, and by the laws `first_holds`, `first_fails`, `joined`, `one`, `sizes_read_low` and
 -- `durations_read_low`.
 use Prim.Native.Nat.{ℕ, suc, ◌*◌}
 use mathlib.Core.Path.{ap, ◌∙◌}
@@ -6,7 +6,7 @@ use mathlib.Core.List.{[], ◌∷◌}
 use native.Mathlib.Omega.{arith}
 use Rattle.segment.specs.Constants.{most_entries, type_bit}
 use Rattle.state.specs.Ranges.{at_most, within, word_limit}
-use Rattle.range.proofs.Joined.{first_holds, first_fails, joined, sizes_read_low, durations_read_low}
+use Rattle.range.proofs.Joined.{one, first_holds, first_fails, joined, sizes_read_low, durations_read_low}
 use Rattle.range.proofs.sums_fit.Goals as goal
 
 pub returns-then-s : goal.returns-then-s
@@ -18,8 +18,8 @@ returns-then-s-gt-MOST_ENTRIES c =
     first_fails a.s.count most_entries _ (omega arith)
     ∙ first_holds (suc a.s.next) a.s.count _ (omega arith)
 
-pub overflow_mul-sizes : goal.overflow_mul-sizes
-overflow_mul-sizes c =
+pub overflow_mul-result : goal.overflow_mul-result
+overflow_mul-result c =
     let a = c.args in
     omega (
       arith,
@@ -27,8 +27,8 @@ overflow_mul-sizes c =
       sizes_read_low a.e a.s.next,
     )
 
-pub overflow_mul-durations : goal.overflow_mul-durations
-overflow_mul-durations c =
+pub overflow_mul-result-2 : goal.overflow_mul-result-2
+overflow_mul-result-2 c =
     let a = c.args in
     omega (
       arith,
@@ -39,9 +39,9 @@ overflow_mul-durations c =
 pub returns : goal.returns
 returns c =
     let a = c.args in
-    let sizes = c.at_most.ensures ∙ ap (λ (m : ℕ). within (at_most a.s.sizes (type_bit * m) ∷ [])) c.sizes_summed-sizes.ensures in
-    let durations = c.at_most-2.ensures ∙ ap (λ (m : ℕ). within (at_most a.s.durations (word_limit * m) ∷ [])) c.durations_summed-durations.ensures in
-    joined _ _ c.both.ensures sizes durations
+    let sizes = one a.s.sizes _ ∙ ap (λ (m : ℕ). within (at_most a.s.sizes (type_bit * m) ∷ [])) c.sizes_summed-sizes.ensures in
+    let durations = one a.s.durations _ ∙ ap (λ (m : ℕ). within (at_most a.s.durations (word_limit * m) ∷ [])) c.durations_summed-durations.ensures in
+    joined _ _ sizes durations
     ∙ first_holds a.s.count most_entries _ (omega arith)
     ∙ first_holds (suc a.s.next) a.s.count
     _ (omega arith)

@@ -1,8 +1,6 @@
--- `range::top_fits` meets its contract, by those of `less`, `at_most`, `both` and `sum_fits`, and by the law `joined`.
-use Rattle.range.proofs.Joined.{joined}
+-- `range::top_fits` meets its contract, by that of `sum_fits`, and by the laws `joined`, `one` and `one_below`.
+use Rattle.range.proofs.Joined.{one, one_below, joined}
 use Rattle.range.proofs.top_fits.Goals as goal
 
 pub returns : goal.returns
-returns c = joined _ _ c.both-3.ensures
-    (joined _ _ c.both.ensures c.less.ensures c.at_most.ensures)
-    (joined _ _ c.both-2.ensures c.less-2.ensures c.sum_fits.ensures)
+returns c = joined _ _ (joined _ _ (joined _ _ (one_below _ _) (one _ _)) (one_below _ _)) c.sum_fits.ensures

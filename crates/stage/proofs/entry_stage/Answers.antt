@@ -8,19 +8,19 @@ use Rattle.stage.proofs.entry_stage.Goals as goal
 pub returns-in_default : goal.returns-in_default
 returns-in_default c =
     let a = c.args in
-    entry_altered a.top a.ls (flowing a.r a.work.now a.table.now) a.n a.b _ c.read_back-read.ensures c.in_default.is
+    entry_altered a.top a.ls (flowing a.r a.work.now a.table.now) a.n a.b _ c.read_back.ensures c.in_default.is
 
 pub slot_byte-requires : goal.slot_byte-requires
 slot_byte-requires c = let a = c.args in (
   c.requires.0,
   c.requires.1,
   c.requires.2,
-  entry_until a.top a.ls (flowing a.r a.work.now a.table.now) a.n a.b _ c.read_back-read.ensures _ _ c.in-Stands.is,
+  entry_until a.top a.ls (flowing a.r a.work.now a.table.now) a.n a.b _ c.read_back.ensures _ _ c.in-Some.is,
 )
 
 pub returns : goal.returns
 returns c =
     let a = c.args in
     c.slot_byte.ensures
-    ∙ entry_stands a.top a.ls (flowing a.r a.work.now a.table.now) a.n a.b _ c.read_back-read.ensures _ _ _ c.in-Stands.is
+    ∙ entry_stands a.top a.ls (flowing a.r a.work.now a.table.now) a.n a.b _ c.read_back.ensures _ _ _ c.in-Some.is
     c.took_entry-taken.ensures

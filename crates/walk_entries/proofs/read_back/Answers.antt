@@ -1,8 +1,8 @@
 -- `walk_entries::read_back` meets its contract, by those of `entry_at` and `entry_answer`.
-use Prim.Native.Nat.{ℕ, ◌+◌, ◌-◌, ◌*◌, ◌≤◌, ◌<◌}
-use mathlib.Core.Path.{◌≡◌, ap, sym, ◌∙◌}
+use Prim.Native.Nat.{◌+◌, ◌-◌, ◌*◌}
+use mathlib.Core.Path.{◌≡◌, ap, ◌∙◌}
 use native.Mathlib.Omega.{arith}
-use Rattle.segment.specs.Constants.{type_bit, entry_bytes}
+use Rattle.segment.specs.Constants.{entry_bytes}
 use Rattle.state.specs.Flow.{level_bytes}
 use Rattle.state.specs.Levels.{entry_at}
 use Rattle.state.specs.declared.StoredEntry.{StoredEntry}

@@ -1,9 +1,8 @@
 -- `walk_index::read_entries` meets its contract. The loop's invariant, `EntriesSo`: what is read from here is what is read from the first entry on; the measure is
 -- the bytes to come.
-use Prim.Native.Nat.{◌-◌}
 use mathlib.Core.Path.{◌∙◌}
 use native.Mathlib.Omega.{arith}
-use Rattle.walk_index.proofs.Walks.{EntriesSo, passed_first, passed_next, passed_refused, passed_part, passed_last, taken_small}
+use Rattle.walk_index.proofs.Walks.{passed_first, passed_next, passed_refused, passed_part, passed_last, taken_small}
 use Rattle.walk_index.proofs.read_entries.Goals as goal
 
 pub loop-j-init : goal.loop-j-init
@@ -32,13 +31,13 @@ returns-in_default c =
 pub overflow_add-sizes : goal.overflow_add-sizes
 overflow_add-sizes c =
     let l = c.loop-j in
-    let small = taken_small c.in-Read.is c.read_entry-taken.ensures.fixed in
+    let small = taken_small c.in-Some.is c.read_entry-taken.ensures.fixed in
     omega (arith, l.invariant.sized, l.invariant.next, l.invariant.within)
 
 pub overflow_add-durations : goal.overflow_add-durations
 overflow_add-durations c =
     let l = c.loop-j in
-    let small = taken_small c.in-Read.is c.read_entry-taken.ensures.fixed in
+    let small = taken_small c.in-Some.is c.read_entry-taken.ensures.fixed in
     omega (arith, l.invariant.lasted, l.invariant.next, l.invariant.within)
 
 pub overflow_add-i : goal.overflow_add-i
@@ -51,7 +50,7 @@ loop-j-preserved c =
     let a = c.args in
     let l = c.loop-j in
     passed_next a.bytes.now a.pos a.«from» a.end a.part a.work.now l.sizes l.durations l.i l.j l.work l.invariant _
-    c.read_entry-taken.ensures c.in-Read.is (omega arith) (omega arith)
+    c.read_entry-taken.ensures c.in-Some.is (omega arith) (omega arith)
 
 pub part_entry-requires : goal.part_entry-requires
 part_entry-requires c =

@@ -1,7 +1,7 @@
 -- `walk_index::read_entries` meets its contract. The loop's invariant, `EntriesSo`: what is read from here is what is read from the first entry on; the measure is
 -- the bytes to come.
 use Prim.Native.Nat.{◌-◌}
-use Rattle.walk_index.proofs.Walks.{EntriesSo, passed_first, passed_next, passed_refused, passed_part, passed_last, taken_small}
+use Rattle.walk_index.proofs.Walks.{EntriesSo}
 use Rattle.walk_index.proofs.read_entries.Given as goal
 
 abbrev pub invariant-loop-j : goal.invariant-loop-j

@@ -2,25 +2,24 @@
 use Prim.Native.Nat.{ℕ, ◌+◌, ◌%◌}
 use mathlib.Core.Path.{◌≡◌, ap, ◌∙◌}
 use mathlib.Core.List.{List}
+use mathlib.Core.Logic.{◌⊎◌, inl, inr}
 use native.Mathlib.Omega.{arith}
 use lib.ListN.{take, drop}
 use borrow.Author.Tests.{eq-eqb}
 use Rattle.basics.specs.Put.{put_all}
 use Rattle.segment.specs.Constants.{type_bit}
-use Rattle.fields.specs.Answers.{number_at}
 use Rattle.walk_index.proofs.Walks.{entry_refused, entry_taken}
 use Rattle.walk_index.proofs.read_entry.Goals as goal
+
+-- a first word whose size is 0
+none_of : {w n : ℕ} → w ≡ n → (w ≡ 0) ⊎ ((w ≡ 0 → ⊥) × (w ≡ 2147483648)) → n % type_bit ≡ 0
+none_of e (inl z) = omega arith
+none_of e (inr z) = omega (arith, z.1)
 
 pub returns-then-word-eq0 : goal.returns-then-word-eq0
 returns-then-word-eq0 c =
     let a = c.args in
-    let none : number_at 4 a.bytes.now a.j % type_bit ≡ 0 = omega (arith, c.word_at-word.ensures.0) in
-    entry_refused a.bytes.now a.i a.j a.work.now _ c.copy_word.ensures (omega arith) (eq-eqb _ _ none)
-
-pub returns-then-word-eq-TYPE_BIT : goal.returns-then-word-eq-TYPE_BIT
-returns-then-word-eq-TYPE_BIT c =
-    let a = c.args in
-    let none : number_at 4 a.bytes.now a.j % type_bit ≡ 0 = omega (arith, c.word_at-word.ensures.0) in
+    let none = none_of c.word_at-word.ensures.0 c.then-word-eq0.either in
     entry_refused a.bytes.now a.i a.j a.work.now _ c.copy_word.ensures (omega arith) (eq-eqb _ _ none)
 
 pub returns : goal.returns

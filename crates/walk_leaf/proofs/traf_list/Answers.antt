@@ -1,28 +1,29 @@
--- `walk_leaf::traf_list` meets its contract, by those of `marked`, `quick_head`, `head_walked`, `traf_flaw`, `flaw_stop`, `track_box` and `stop_at`. The
--- loop's invariant: what is right for the boxes from here on is right for all of them. The measure is what is left of the `traf`. The laws are those of `Trafs`.
-use Prim.Native.Nat.{ℕ, ◌+◌, ◌-◌, ◌≤◌, ◌<◌}
+-- `walk_leaf::traf_list` meets its contract, by those of `quick_head`, `traf_flaw`, `flaw_stop`, `track_box` and `stop_at`. The loop's invariant: what is right
+-- for the boxes from here on is right for all of them. The measure is what is left of the `traf`. The laws are those of `Trafs`.
+use Prim.Native.Nat.{ℕ, ◌+◌, ◌≤◌, ◌<◌}
 use mathlib.Core.Path.{◌≡◌, refl, ap, sym, ◌∙◌}
 use mathlib.Core.List.{List}
 use native.Mathlib.Omega.{arith}
 use lib.ListN.{length}
+use Rattle.std.specs.Prelude.{Result, Ok}
 use Rattle.machine.specs.declared.Header.{Header}
+use Rattle.state.specs.declared.Seen.{Seen}
+use Rattle.state.specs.declared.TrafSo.{TrafSo}
 use Rattle.state.specs.Rows.{traf_faults}
 use Rattle.fields.specs.Answers.{head_at}
-use Rattle.fields.specs.declared.HeadRead.TheVariants as head
-use Rattle.fields.proofs.Answers.{head_in}
+use Rattle.fields.specs.declared.Halt.{Halt}
+use Rattle.fields.proofs.Answers.{head_in, handed}
 use Rattle.flaws.specs.Flaws.{flaw_of}
-use Rattle.flaws.specs.Marks.{phase_of}
+use Rattle.flaws.proofs.Numbered.{some_number, no_number}
 use Rattle.flaws.proofs.Places.{traf_beyond}
-use Rattle.walk_leaf.specs.Walks.{Headed, flaw_stop, ListFixed, TrafWalked}
-use Rattle.walk_leaf.specs.declared.Known.{Known}
-use Rattle.walk_leaf.specs.declared.Walked.{Walked}
-use Rattle.walk_leaf.proofs.Loops.{head_fixed, head_headed, stays_fixed, over_fixed}
+use Rattle.walk_leaf.specs.Walks.{Headed, WalkFixed, flaw_stop, TrafWalked}
+use Rattle.walk_leaf.proofs.Loops.{head_fixed, head_headed, stays_fixed, over_fixed, halt_fixed}
 use Rattle.walk_leaf.proofs.Trafs.{TrafFrom, traf_head, traf_flawed, traf_stays, traf_over, traf_lacks, traf_ends_lem, flaw_few, flaw_stop_in, traf_walked}
-use borrow.Enum.Refused.{opened}
-use Rattle.walk_leaf.proofs.traf_list.Goals.{In-Read}
+use Rattle.walk_leaf.proofs.traf_list.Goals.{In_ok-h}
 use Rattle.walk_leaf.proofs.traf_list.Goals as goal
 
-module _ (c : In-Read) where
+-- past a header that was read
+module _ (c : In_ok-h) where
   abbrev s : List ℕ
   s = c.args.bytes.now
 
@@ -38,14 +39,14 @@ module _ (c : In-Read) where
   abbrev at : ℕ
   at = c.loop-at.at
 
-  abbrev so : Known
+  abbrev so : TrafSo
   so = c.loop-at.so
 
   abbrev h : Header
-  h = c.in-Read.h
+  h = c.in_ok-h.h
 
-  read : head_at s at end ≡ head.Read h
-  read = sym c.quick_head-head.ensures ∙ c.in-Read.is
+  read : head_at s at end ≡ Ok h
+  read = sym c.quick_head.ensures ∙ c.in_ok-h.was
 
   headed : Headed s at h
   headed = head_headed s at end c.requires.2 read
@@ -60,72 +61,67 @@ module _ (c : In-Read) where
   before = c.loop-at-test.true
 
   -- what is right from here on is right for the `traf`
-  whole : (r : Walked) → TrafFrom id s pos end at so r → ListFixed s end r →
-      TrafWalked s id pos c.args.from end c.args.known r
-  whole r d g = traf_walked id s pos _ end _ _ r c.marked-so.ensures (c.loop-at.invariant.4 r d) g
+  whole : (r : Result Seen Halt) → TrafFrom id s pos end at so r → WalkFixed s end r → TrafWalked s id pos c.args.from end c.args.seen r
+  whole r d g = traf_walked id s pos _ end _ r (c.loop-at.invariant.3 r d) g
 
 pub loop-at-init : goal.loop-at-init
-loop-at-init c =
-    let few : c.marked-so.result.any ≤ 1 = rw c.marked-so.ensures c.requires.4 in
-    (omega arith, c.requires.1, c.requires.3, few, λ r d. d)
+loop-at-init c = (omega arith, c.requires.1, c.requires.3, λ r d. d)
 
-pub returns-in_default : goal.returns-in_default
-returns-in_default c =
+pub returns-in_err-h : goal.returns-in_err-h
+returns-in_err-h c =
     let l = c.loop-at in
     let a = c.args in
     let s = a.bytes.now in
-    let e = sym c.quick_head-head.ensures in
-    let told = c.head_walked.ensures in
-    traf_walked a.id s a.pos a.from a.end a.known _ _ c.marked-so.ensures
-    (l.invariant.4 _ (rw told (traf_head a.id s a.pos a.end l.at l.so l.invariant.2 c.loop-at-test.true _ e (opened c.in_default.in_default-own.keys2))))
-    (rw told (head_fixed s l.at a.end c.loop-at-test.true _ e))
-
-pub traf_flaw-flaw-requires : goal.traf_flaw-flaw-requires
-traf_flaw-flaw-requires c =
-    let k = (goal.at.traf_flaw-flaw-requires c).In-Read in
-    (headed k).holds
+    let e = sym c.quick_head.ensures ∙ c.in_err-h.was in
+    rw (handed c.from_residual.ensures.1)
+    (traf_walked a.id s a.pos a.from a.end a.seen _
+    (l.invariant.3 _ (traf_head a.id s a.pos a.end l.at l.so l.invariant.2 c.loop-at-test.true _ e))
+    (head_fixed s l.at a.end c.loop-at-test.true _ e))
 
 pub flaw_stop-requires : goal.flaw_stop-requires
 flaw_stop-requires c =
-    let k = (goal.at.flaw_stop-requires c).In-Read in
+    let k = (goal.at.flaw_stop-requires c).In_ok-h in
     let long = (headed k).long in
     let w = within k in
     omega arith
 
-pub returns-then-flaw-ne0 : goal.returns-then-flaw-ne0
-returns-then-flaw-ne0 c =
-    let k = (goal.at.returns-then-flaw-ne0 c).In-Read in
-    let flaw = flaw_of (traf_faults (phase_of (so k).mark) (h k)) in
-    let shown = c.traf_flaw-flaw.ensures in
-    let told = c.flaw_stop.ensures ∙ ap (λ (n : ℕ). flaw_stop n (so k).mark (pos k) (at k) (end k) (at k + (h k).head)) shown in
+pub returns-in-Some : goal.returns-in-Some
+returns-in-Some c =
+    let k = (goal.at.returns-in-Some c).In_ok-h in
+    let flaw = flaw_of (traf_faults (so k).track (h k)) in
+    let shown = some_number flaw _ (sym c.traf_flaw.ensures ∙ c.in-Some.is) in
+    let told = c.flaw_stop.ensures ∙ ap (λ (n : ℕ). flaw_stop n (so k).track (pos k) (at k) (end k) (at k + (h k).head)) (sym shown.0) in
     let w = within k in
     let b = before k in
     let holds = (headed k).holds in
-    whole k _ (rw told (traf_flawed (id k) (s k) (pos k) (end k) (at k) (so k) (here k) b (read k) (headed k) (λ z. c.if-flaw-ne0.true (shown ∙ z))))
-    (rw told (flaw_stop_in flaw (so k).mark (pos k) (at k) (end k) (at k + (h k).head) (flaw_few (h k).pos _ (traf_beyond (phase_of (so k).mark) (h k))) (omega arith) (omega arith) (omega arith)))
+    rw told (whole k _ (traf_flawed (id k) (s k) (pos k) (end k) (at k) (so k) (here k) b (read k) (headed k) shown.1)
+    (flaw_stop_in flaw (so k).track (pos k) (at k) (end k) (at k + (h k).head) (flaw_few (h k).pos _ (traf_beyond (so k).track (h k))) (omega arith) (omega arith) (omega arith)))
 
-pub track_box-passed-requires : goal.track_box-passed-requires
-track_box-passed-requires c =
-    let k = (goal.at.track_box-passed-requires c).In-Read in
-    (headed k, sym c.traf_flaw-flaw.ensures ∙ c.if-flaw-ne0.false, c.loop-at.invariant.3)
+pub track_box-requires : goal.track_box-requires
+track_box-requires c =
+    let k = (goal.at.track_box-requires c).In_ok-h in
+    (headed k, no_number _ (sym c.traf_flaw.ensures ∙ c.in_default.is))
 
-pub returns-in_default-passed : goal.returns-in_default-passed
-returns-in_default-passed c =
-    let k = (goal.at.returns-in_default-passed c).In-Read in
-    whole k _
-    (traf_stays (id k) (s k) (pos k) (end k) (at k) (so k) (here k) (before k) (read k) (headed k) (sym c.traf_flaw-flaw.ensures ∙ c.if-flaw-ne0.false)
-    c.track_box-passed.ensures (opened c.in_default-passed.in_default-passed-own.keys2))
-    (stays_fixed (s k) _ (end k) (within k) c.track_box-passed.result (opened c.in_default-passed.in_default-passed-own.keys2) c.track_box-passed.ensures.fixed)
+pub returns-in_err-so : goal.returns-in_err-so
+returns-in_err-so c =
+    let k = (goal.at.returns-in_err-so c).In_ok-h in
+    rw (handed c.from_residual-in_err-so.ensures.1)
+    (whole k _
+    (traf_stays (id k) (s k) (pos k) (end k) (at k) (so k) (here k) (before k) (read k) (headed k) (no_number _ (sym c.traf_flaw.ensures ∙ c.in_default.is))
+    c.track_box.ensures _ c.in_err-so.was)
+    (stays_fixed _ (end k) (within k) _ (halt_fixed (s k) _ c.in_err-so.was c.track_box.ensures.fixed)))
 
 pub overflow_add-at : goal.overflow_add-at
 overflow_add-at c =
-    let k = (goal.at.overflow_add-at c).In-Read in
+    let k = (goal.at.overflow_add-at c).In_ok-h in
     let w = within k in
+    let far = (headed k).far in
+    let holds = (headed k).holds in
     omega arith
 
 pub loop-at-smaller : goal.loop-at-smaller
 loop-at-smaller c =
-    let k = (goal.at.loop-at-smaller c).In-Read in
+    let k = (goal.at.loop-at-smaller c).In_ok-h in
     let w = within k in
     let b = before k in
     let some = (headed k).short in
@@ -134,30 +130,28 @@ loop-at-smaller c =
 
 pub loop-at-preserved : goal.loop-at-preserved
 loop-at-preserved c =
-    let k = (goal.at.loop-at-preserved c).In-Read in
+    let k = (goal.at.loop-at-preserved c).In_ok-h in
     let l = c.loop-at in
-    let (there, few) = over_fixed (s k) _ c.in-Over.is c.track_box-passed.ensures.fixed in
     let w = within k in
     let on = l.invariant.0 in (
       omega arith,
       omega arith,
-      there,
-      few,
-      λ r d. l.invariant.4 r
-          (traf_over (id k) (s k) (pos k) (end k) (at k) (so k) (here k) (before k) (read k) (headed k) (sym c.traf_flaw-flaw.ensures ∙ c.if-flaw-ne0.false)
-          c.track_box-passed.ensures c.in-Over.is r d),
+      over_fixed (s k) _ c.in_ok-so.was c.track_box.ensures.fixed,
+      λ r d. l.invariant.3 r
+          (traf_over (id k) (s k) (pos k) (end k) (at k) (so k) (here k) (before k) (read k) (headed k) (no_number _ (sym c.traf_flaw.ensures ∙ c.in_default.is))
+          c.track_box.ensures c.in_ok-so.was r d),
     )
 
-pub returns-then-so-ne1 : goal.returns-then-so-ne1
-returns-then-so-ne1 c =
+pub returns-then-not-is_timed : goal.returns-then-not-is_timed
+returns-then-not-is_timed c =
     let l = c.loop-at in
     let a = c.args in
     let s = a.bytes.now in
     let q : l.at ≡ a.end = omega arith in
-    let told = c.stop_at.ensures in
-    traf_walked a.id s a.pos a.from a.end a.known _ _ c.marked-so.ensures
-    (l.invariant.4 _ (rw (told, q) (traf_lacks a.id s a.pos a.end l.so c.if-so-ne1.true)))
-    (rw told (record { none = refl; low = omega arith; place = omega arith; count = omega arith }))
+    rw c.stop_at.ensures
+    (traf_walked a.id s a.pos a.from a.end a.seen _
+    (l.invariant.3 _ (rw q (traf_lacks a.id s a.pos a.end l.so (sym c.is_timed.ensures ∙ c.if-not-is_timed.true))))
+    (record { none = refl; low = omega arith; place = omega arith; count = omega arith }))
 
 pub returns : goal.returns
 returns c =
@@ -165,6 +159,6 @@ returns c =
     let a = c.args in
     let s = a.bytes.now in
     let q : l.at ≡ a.end = omega arith in
-    traf_walked a.id s a.pos a.from a.end a.known _ _ c.marked-so.ensures
-    (l.invariant.4 _ (rw q (traf_ends_lem a.id s a.pos a.end l.so c.if-so-ne1.false)))
-    (omega arith, l.invariant.3, c.if-so-ne1.false)
+    traf_walked a.id s a.pos a.from a.end a.seen _
+    (l.invariant.3 _ (rw q (traf_ends_lem a.id s a.pos a.end l.so (sym c.is_timed.ensures ∙ c.if-not-is_timed.false))))
+    (omega arith)

@@ -1,9 +1,8 @@
 -- `walk_opening::find_index` meets its contract, by those of `quick_head`, `opening_flaw` and `opening_box`, and by the laws of the boxes up to the top index. The loop's invariant: what
 -- is right from the position on is right from the start on; the measure is what is left up to the limit.
-use Prim.Native.Nat.{ℕ, ◌-◌, ◌≤◌}
+use Prim.Native.Nat.{◌-◌, ◌≤◌}
 use lib.ListN.{length}
-use Rattle.walk_opening.specs.Steps.{BoxPassed, FoundFrom, FoundFixed, IndexFound}
-use Rattle.walk_opening.specs.declared.Found.{Found}
+use Rattle.walk_opening.specs.Steps.{Found, FoundFrom}
 use Rattle.walk_opening.proofs.find_index.Given as goal
 
 abbrev pub invariant-loop-at : goal.invariant-loop-at

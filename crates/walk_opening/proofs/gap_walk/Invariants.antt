@@ -1,9 +1,9 @@
 -- `walk_opening::gap_walk` meets its contract, by those of `read_head`, `gap_kind_flaw`, `top_flaw` and `head_crossed`, and by the laws of the gap. The loop's invariant: what is right
 -- from the position on is right from the start on; the measure is what is left of the gap.
-use Prim.Native.Nat.{ℕ, ◌-◌, ◌≤◌, ◌<◌}
+use Prim.Native.Nat.{◌-◌, ◌≤◌}
 use lib.ListN.{length}
-use Rattle.walk_opening.specs.declared.Crossed.{Crossed}
-use Rattle.walk_opening.proofs.Gap.{GapFrom, gap_over, gap_unread, gap_flawed, gap_cut, gap_passed, gap_start}
+use Rattle.walk_opening.specs.Views.{Crossed}
+use Rattle.walk_opening.proofs.Gap.{GapFrom}
 use Rattle.walk_opening.proofs.gap_walk.Given as goal
 
 abbrev pub invariant-loop-at : goal.invariant-loop-at

@@ -14,4 +14,4 @@ returns-then-h-eq-STYP c =
 pub returns : goal.returns
 returns c =
     let a = c.args in
-    rw c.skip_to.ensures (body_skipped a.brand a.bytes.now a.at limit a.h c.requires.0 c.if-h-eq-STYP.false c.requires.2)
+    body_skipped a.brand a.bytes.now a.at limit a.h c.requires.0 c.if-h-eq-STYP.false c.requires.2 c.skip_to.ensures

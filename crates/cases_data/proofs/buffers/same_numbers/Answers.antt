@@ -1,38 +1,15 @@
--- `cases_data::buffers::same_numbers` meets its contract: up to the place at hand the two are alike, and at an end all that is asked for is.
-use mathlib.Core.Logic.{inl, inr}
-use native.Mathlib.Omega.{arith}
-use borrow.Author.Tests.{ltb-true}
-use Rattle.cases_data.proofs.Alike.{never, alike_more, alike_first, unlike_first}
-use Prim.Native.Nat.{◌<◌}
-use lib.ListN.{length}
+-- `cases_data::buffers::same_numbers` meets its contract, by that of `==`.
+use Rattle.std.proofs.Common.{◌≡◌, ◌↔◌, true, take}
+use Rattle.std.proofs.lemmas.List.{take_min}
+use Rattle.std.proofs.lemmas.Slice.Eq.{slice_eq-Decides}
+use Rattle.std.proofs.lemmas.Bool.Decides.{Decides-eqb}
 use Rattle.cases_data.proofs.buffers.same_numbers.Goals as goal
-use Rattle.cases_data.proofs.buffers.same_numbers.Goals.{then-loop-i-test+then-i-w+else-i-n, then-loop-i-test+else-i-w, else-loop-i-test}
 
-pub returns-then-v-i : goal.returns-then-v-i
-returns-then-v-i c =
-    let i = c.loop-i.i in
-    let s = c.args in
-    let h : i < s.n = omega (arith, ltb-true) in
-    never (unlike_first s.v.now s.w.now s.n i h c.if-v-i.true)
-
-pub loop-i-preserved : goal.loop-i-preserved
-loop-i-preserved c =
-    let i = c.loop-i.i in
-    let inv = c.loop-i.invariant in
-    let s = c.args in
-    let h : i < length s.v.now = omega (arith, ltb-true) in
-    let k : i < length s.w.now = omega (arith, ltb-true) in
-    let m : i < s.n = omega (arith, ltb-true) in
-    (omega arith, omega arith, omega arith, alike_more s.v.now s.w.now i h k c.if-v-i.false inv.3)
-
-pub returns : goal.returns
-returns c =
-    let i = c.loop-i.i in
-    let inv = c.loop-i.invariant in
-    let s = c.args in
-    alike_first s.v.now s.w.now i inv.3 s.n inv.2
-    (elim c.loop-i-test.branch [
-      | then-loop-i-test+then-i-w+else-i-n w ↦ inl w.if-i-n.false
-      | then-loop-i-test+else-i-w w ↦ inr (inl w.if-i-w.false)
-      | else-loop-i-test w ↦ inr (inr w.loop-i-test.false)
-    ])
+pub returns-then-v-w : goal.returns-then-v-w
+returns-then-v-w c =
+    let v = c.args.v.now in
+    let w = c.args.w.now in
+    let n = c.args.n in
+    let told : (c.eq.result ≡ true) ↔ (take n v ≡ take n w) =
+    rw (← take_min n v, ← take_min n w, ← c.least.ensures, ← c.least-then-v-w.ensures) (slice_eq-Decides Decides-eqb _ _ _ c.eq.ensures) in
+    (λ t. (c.if-v-w.true, told.0 t), λ same. told.1 same.1)

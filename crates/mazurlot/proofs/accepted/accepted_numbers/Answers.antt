@@ -7,10 +7,10 @@ pub returns-then-numbers-ne-STATE_NUMBERS : goal.returns-then-numbers-ne-STATE_N
 unfolding accepted_numbers
 returns-then-numbers-ne-STATE_NUMBERS c = rw (ne_eqb _ _ c.if-numbers-ne-STATE_NUMBERS.true)
 
-pub returns-then-numbers-ne-ACCEPTED : goal.returns-then-numbers-ne-ACCEPTED
+pub returns-then-numbers-eq-ACCEPTED : goal.returns-then-numbers-eq-ACCEPTED
 unfolding accepted_numbers
-returns-then-numbers-ne-ACCEPTED c = rw (eq-eqb _ _ c.if-numbers-ne-STATE_NUMBERS.false, ne_eqb _ _ c.if-numbers-ne-ACCEPTED.true)
+returns-then-numbers-eq-ACCEPTED c = rw (eq-eqb _ _ c.if-numbers-ne-STATE_NUMBERS.false, eq-eqb _ _ c.if-numbers-eq-ACCEPTED.true) c.zeros_behind.ensures
 
-pub returns : goal.returns
+pub returns-else-numbers-eq-ACCEPTED : goal.returns-else-numbers-eq-ACCEPTED
 unfolding accepted_numbers
-returns c = rw (eq-eqb _ _ c.if-numbers-ne-STATE_NUMBERS.false, eq-eqb _ _ c.if-numbers-ne-ACCEPTED.false) c.zeros_behind.ensures
+returns-else-numbers-eq-ACCEPTED c = rw (eq-eqb _ _ c.if-numbers-ne-STATE_NUMBERS.false, ne_eqb _ _ c.if-numbers-eq-ACCEPTED.false)

@@ -1,16 +1,17 @@
 -- `mazurlot::accepted::look` meets its contract, by those of `accepted_numbers`, `look_accepted` and `refused_with`, and by the laws `accepted_looked_up`
 -- and `others_refused`.
-use Prim.Native.Nat.{ℕ, ◌<◌}
+use Rattle.std.specs.Prelude.{Result, Err}
+use Prim.Native.Nat.{ℕ}
 use mathlib.Core.Path.{◌≡◌, sym, ap, subst, ◌∙◌}
 use native.Mathlib.Omega.{arith}
 use lib.ListN.{length}
+use Rattle.machine.specs.declared.Refusal.{Refusal}
 use Rattle.machine.specs.Faults.{refusal}
-use Rattle.covering.specs.declared.LookupAnswer.{LookupAnswer}
-use Rattle.covering.specs.declared.LookupAnswer.TheVariants as looks
 use Rattle.lookup.specs.Spots.{Spots}
 use Rattle.mazurlot.proofs.Numbered.{accepted_long, accepted_looked_up, others_refused}
 use Rattle.mazurlot.proofs.accepted.look.Goals.{Then-accepted_numbers}
 use Rattle.mazurlot.proofs.accepted.look.Goals as goal
+use Rattle.covering.specs.declared.Leaf.{Leaf}
 
 -- an accepted state has places enough to be read
 reads : (c : Then-accepted_numbers) → length c.args.numbers.now ≡ 57
@@ -50,10 +51,10 @@ pub returns-then-accepted_numbers : goal.returns-then-accepted_numbers
 returns-then-accepted_numbers c =
     let told = sym c.accepted_numbers.ensures ∙ c.if-accepted_numbers.true in
     let a = c.args in
-    subst (λ (q : LookupAnswer). Spots a.table.now q c.look_accepted.result) (accepted_looked_up a.numbers.now a.table.now a.request told)
+    subst (λ (q : Result Leaf Refusal). Spots a.table.now q c.look_accepted.result) (accepted_looked_up a.numbers.now a.table.now a.request told)
     c.look_accepted.ensures
 
 pub returns : goal.returns
 returns c =
     let told = sym c.accepted_numbers.ensures ∙ c.if-accepted_numbers.false in
-    ap (λ (n : ℕ). looks.Refused (refusal n 0)) c.refused_with.ensures ∙ others_refused _ _ _ told
+    ap (λ (n : ℕ). Err (refusal n 0)) c.refused_with.ensures ∙ others_refused _ _ _ told

@@ -1,11 +1,11 @@
 -- `mazurlot::accepted::refused_with` meets its contract, by that of `unpack`.
 use Rattle.mazurlot.specs.Accepted.{refused_with}
-use Rattle.mazurlot.proofs.Laws.{was_found, was_refused, two_refused}
+use Rattle.mazurlot.proofs.Laws.{was_found, two_refused}
 use Rattle.mazurlot.proofs.accepted.refused_with.Goals as goal
 
-pub returns-in-Found : goal.returns-in-Found
+pub returns-in-Ok : goal.returns-in-Ok
 unfolding refused_with
-returns-in-Found c = rw (was_found _ _ c.unpack.ensures _ c.in-Found.is)
+returns-in-Ok c = rw (was_found _ _ c.unpack.ensures _ c.in-Ok.is)
 
-pub returns-in-Refused : goal.returns-in-Refused
-returns-in-Refused c = two_refused _ _ c.unpack.ensures _ c.in-Refused.is
+pub returns-in-Err : goal.returns-in-Err
+returns-in-Err c = two_refused _ _ c.unpack.ensures _ c.in-Err.is

@@ -1,7 +1,0 @@
--- `batch::part_buffer` meets its contract: so many zeros are as long.
-use Rattle.std.proofs.Common.{ℕ, sym}
-use Rattle.std.proofs.lemmas.List.{length-replicate}
-use Rattle.batch.proofs.part_buffer.Goals as goal
-
-pub returns : goal.returns
-returns c = sym (length-replicate {0} {A = ℕ} 524288 0)

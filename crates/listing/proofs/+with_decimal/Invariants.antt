@@ -1,5 +1,0 @@
--- `listing::with_decimal` calls itself: the measure is how many digits there may be.
-use Rattle.listing.proofs.+with_decimal.Given as goal
-
-abbrev pub decreases-with_decimal : goal.decreases-with_decimal
-decreases-with_decimal l = l.most

@@ -1,5 +1,0 @@
--- `pack::take::seen_of` meets its contract, by those of `is_one`.
-use Rattle.pack.proofs.take.seen_of.Goals as goal
-
-pub returns : goal.returns
-returns c = rw c.is_one.ensures
