@@ -7,6 +7,7 @@ ghost use Rattle.machine.specs.Heads.{sized, step_head};
 ghost use Rattle.state.specs.Flow.{Flow, left};
 ghost use Rattle.state.specs.Ranges.{Within, head_bounds};
 ghost use Rattle.state.specs.Views.{view};
+ghost use Rattle.header.specs.Views.{refusal_head};
 
 use machine::{Head, Header, Refusal, Step};
 
@@ -14,6 +15,19 @@ use machine::{Head, Header, Refusal, Step};
 const SHORT: u64 = 8;
 
 const LONG: u64 = 16;
+
+// The refusal that goes out where a byte of a header was not taken; of a byte that was taken there is none.
+pub fn refused_head(r: Result<Step<Head, Header>, Refusal>) -> Refusal
+    ensures { result ≡ refusal_head r }
+{
+    match r {
+        Ok(_) => Refusal {
+            number: 0,
+            place: 0,
+        },
+        Err(x) => x,
+    }
+}
 
 // A number's next byte. A number of eight bytes has seven before its last, so that no sum wraps.
 pub fn spelled(acc: u64, b: u8) -> u64

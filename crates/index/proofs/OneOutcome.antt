@@ -16,6 +16,8 @@ use Rattle.state.specs.Flow.{Flow, Left}
 use Rattle.state.specs.Calls.{flow_of}
 use Rattle.state.specs.Views.{view}
 use Rattle.index.specs.Views.{shown_by}
+use Rattle.index.proofs.refused_index.Kinds as refused-kinds
+use Rattle.index.proofs.refused_index.Reads as refused-stated
 use Rattle.index.proofs.index_begin.Kinds as begin-kinds
 use Rattle.index.proofs.index_begin.Reads as begin-stated
 use Rattle.index.proofs.too_short.Kinds as short-kinds
@@ -41,8 +43,8 @@ seen_index_lem f (Ok (step.Done x)) = refl
 seen_index_lem f (Err x) = refl
 
 -- of one answer to a byte: one refusal
-pub refused_index_once : (r : Result (Step Sidx IndexRead) Refusal) (x y : Refusal) → r ≡ Err x → r ≡ Err y → x ≡ y
-refused_index_once r x y p q = search (p, q)
+pub refused_index_once : OneOutcome 0 refused-kinds.ps refused-kinds.r refused-stated.Pre refused-stated.Post
+refused_index_once = record { asks_nothing = λ κs given. tt; outcomes_coincide = λ κs given r r' left left' p q. (p ∙ sym q, refl) }
 
 -- of nothing: one index to begin with
 pub index_begin_once : OneOutcome 0 begin-kinds.ps begin-kinds.r begin-stated.Pre begin-stated.Post

@@ -19,7 +19,7 @@ ghost use Rattle.state.specs.Views.{view};
 ghost use Rattle.state.specs.Sidx.{Place, part_of, wide_more, sum_faults, close_sidx, field_ends, entry_ends, word_place, byte_place, sidx_start, step_sidx};
 ghost use Rattle.state.specs.Ranges.{Within, sidx_bounds, index_most, word_limit};
 ghost use Rattle.state.specs.Calls.{flow_of};
-ghost use Rattle.index.specs.Views.{place_of, shown_by, Shallow, Timely, Summed};
+ghost use Rattle.index.specs.Views.{place_of, refusal_index, shown_by, Shallow, Timely, Summed};
 
 use machine::{Refusal, Step};
 use state::{
@@ -36,6 +36,19 @@ pub enum Where {
 
 // What a byte of an index makes of it: it goes on, or it is read.
 type Answer = Result<Step<Sidx, IndexRead>, Refusal>;
+
+// The refusal that goes out where a byte of an index was not taken; of a byte that was taken there is none.
+pub fn refused_index(r: Answer) -> Refusal
+    ensures { result ≡ refusal_index r }
+{
+    match r {
+        Ok(_) => Refusal {
+            number: 0,
+            place: 0,
+        },
+        Err(x) => x,
+    }
+}
 
 // Where a number of an index ends: the index's place, its box, the time at which the next entry starts, and the count of bytes up to there, which
 // is within the limit.

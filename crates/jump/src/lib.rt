@@ -102,7 +102,7 @@ fn stage_skips(s: Stage) -> u64
     match s {
         Stage::Opening { boxes, .. } => boxes.skips(),
         Stage::Gap { boxes, .. } => gap_skips(boxes),
-        Stage::Leaf { boxes, .. } => boxes.skips(),
+        Stage::Leaf { boxes, .. } => leaf_skips(boxes),
         Stage::Entry { .. } | Stage::Inner { .. } => 0,
     }
 }
