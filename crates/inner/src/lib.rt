@@ -49,7 +49,11 @@ pub fn inner_byte(
         },
         InnerBox::Body(span, i) => {
             let p = Where::Under(top, slot, depth);
-            match index::index_byte(p, span, i, at, n, b, work)? {
+            let answer = index::index_byte(p, span, i, at, n, b, work);
+            let Ok(step) = answer else {
+                return Err(index::refused_index(answer));
+            };
+            match step {
                 Step::Going(i) => Ok(Step::Going(InnerBox::Body(span, i))),
                 Step::Done(x) => Ok(Step::Done(x)),
             }

@@ -18,7 +18,7 @@ ghost use Rattle.header.specs.Views.{after_body, after_header, after_head};
 ghost use Rattle.lists.specs.Listed.{lower, ended, boxed, next_head, on_from, list_bounds, step_list};
 
 use flaws::size_flaw;
-use header::head_byte;
+use header::{head_byte, refused_head};
 use machine::{BoxesSo, Head, Header, Refusal, Step};
 use state::Span;
 
@@ -215,7 +215,7 @@ pub fn after_head<L: BoxList>(
     match r {
         Ok(Step::Going(h)) => Ok(Step::Going(BoxesSo::Head(so, h))),
         Ok(Step::Done(h)) => after_header(list, so, h, n),
-        Err(x) => Err(list.beside(so, x, n)),
+        Err(_) => Err(list.beside(so, refused_head(r), n)),
     }
 }
 
