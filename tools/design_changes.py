@@ -15,7 +15,7 @@ import sys
 FUNCTION = re.compile(r"^( *)pub (?:const )?fn (\w+)", re.M)
 IMPL = re.compile(r"^impl(?:<[^{]*?>)? (?:[A-Z]\w*(?:<[^{]*?>)? for )?(\w+)", re.M)
 TYPE = re.compile(r"^(?:#\[derive[^\n]*\n)?pub (?:(?:struct|enum|trait) (\w+)[^{;]*\{.*?^\}|(?:struct|type|enum) (\w+)[^\n]*;)", re.M | re.S)
-HANDED = re.compile(r"^pub (?:const|use) (?!fn\b)([\w:]+)[^;]*;", re.M)
+HANDED = re.compile(r"^pub (?:const|use) (?!fn\b)([\w:]*\w)[^;]*;", re.M)
 HEAD = re.compile(r"( *)(?:module _ |(?:abbrev |unfoldable )?(pub )?(record |data )?(?!use |mod )([^\s:({]+))")
 WORDS = re.compile(r"`([^`\n]+)`")
 
