@@ -90,7 +90,8 @@ def declared(folder, part):
             elif m:
                 head, end = extent(lines, i, m[1], m[4])
                 if m[2]:
-                    text = squeeze(" ".join(lines[i : end if part == "specs" or m[3] else head]))
+                    whole = part == "specs" or m[3] or not lines[i].lstrip().startswith("pub ")
+                    text = squeeze(" ".join(lines[i : end if whole else head]))
                     found[module, m[4]] = f"{module}: {text}" + " — of " * bool(around) + " ".join(of for _, of in around)
             i = end if m else i + 1
     return found
