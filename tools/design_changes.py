@@ -44,7 +44,7 @@ def functions(folder):
     for module, text in sources(folder):
         for m in FUNCTION.finditer(text):
             owner = IMPL.findall(text[: m.start()])[-1:] if m[1] else [module] * bool(module)
-            found[*owner, m[2]] = ": ".join([*owner, squeeze(text[m.start() : clauses_end(text, m.start())])])
+            found[(*owner, m[2])] = ": ".join([*owner, squeeze(text[m.start() : clauses_end(text, m.start())])])
     return found
 
 
@@ -116,7 +116,7 @@ def show(title, old, new, same=lambda a, b: a == b):
         if a == b:
             continue
         if a and b and same(a, b):
-            alike.append(name[-1])
+            alike.append("::".join(name))
             continue
         lines += ([f"- {a}"] if a else []) + ([f"+ {b}"] if b else [])
     if alike:
