@@ -3,15 +3,20 @@
 
 usage: tools/design_changes.py OLD NEW
 
-OLD and NEW are checkouts. Of each crate: public functions with their clauses, public types, what specs/ declares, and the theorems in proofs/
-that README.md or docs/ name; old lines begin with `-`, new ones with `+`. What is the same in both is left out, and so is a definition whose
-text differs in the spelling of the answers alone (listed by name).
+OLD and NEW are checkouts. Of each crate: public functions with their clauses, public types, constants and what is handed on from another crate,
+what specs/ declares, and the theorems in proofs/ that README.md or docs/ of either name; old lines begin with `-`, new ones with `+`. Before the
+colon stands the module or the type that a line is in; behind the dash the parameters of the `module _` around it. What is the same in both is left
+out, and so is a definition or a theorem whose text differs in the spelling of the answers alone (listed by name).
 """
 import pathlib
 import re
 import sys
 
 FUNCTION = re.compile(r"^( *)pub (?:const )?fn (\w+)", re.M)
+IMPL = re.compile(r"^impl(?:<[^{]*?>)? (?:[A-Z]\w*(?:<[^{]*?>)? for )?(\w+)", re.M)
+TYPE = re.compile(r"^(?:#\[derive[^\n]*\n)?pub (?:(?:struct|enum|trait) (\w+)[^{;]*\{.*?^\}|(?:struct|type|enum) (\w+)[^\n]*;)", re.M | re.S)
+HANDED = re.compile(r"^pub (?:const|use) (?!fn\b)([\w:]*\w)[^;]*;", re.M)
+HEAD = re.compile(r"( *)(?:module _ |(?:abbrev |unfoldable )?(pub )?(record |data )?(?!use |mod )([^\s:({]+))")
 WORDS = re.compile(r"`([^`\n]+)`")
 
 
@@ -21,48 +26,74 @@ def squeeze(text):
     return re.sub(r"\(\s+", "(", re.sub(r"\{\s+", "{ ", text))
 
 
+def sources(folder):
+    for path in sorted(folder.glob("src/**/*.rt")):
+        yield "" if path.stem in ("lib", "main") else path.stem, path.read_text(encoding="utf-8")
+
+
+def clauses_end(text, at):
+    """Where a function's signature and clauses end: before its body, or at a semicolon."""
+    for o in re.compile(r"\{$", re.M).finditer(text, at):
+        if not re.match(r"\s*(requires|ensures)\b", text[text.rfind("\n", 0, o.start()) + 1 : o.end()]):
+            return o.start()
+    return text.find(";", at)
+
+
 def functions(folder):
     found = {}
-    for path in sorted(folder.glob("src/**/*.rt")):
-        text = path.read_text(encoding="utf-8")
+    for module, text in sources(folder):
         for m in FUNCTION.finditer(text):
-            open_ = re.compile(r"^%s\{$|[^\n]*[^ ] \{$" % m[1], re.M)
-            at = m.start()
-            while True:
-                o = re.compile(r"\{$", re.M).search(text, at)
-                if o is None:
-                    break
-                line = text[text.rfind("\n", 0, o.start()) + 1 : o.end()]
-                if not re.match(r"\s*(requires|ensures)\b", line):
-                    break
-                at = o.end()
-            end = o.start() if o else text.find(";", m.start())
-            owner = re.findall(r"^impl(?:<[^{]*?>)? (?:[A-Z]\w*(?:<[^{]*?>)? for )?(\w+)", text[: m.start()], re.M) if m[1] else []
-            name = (owner[-1] + "::" if owner else "") + m[2]
-            found[name] = squeeze(text[m.start() : end])
+            owner = IMPL.findall(text[: m.start()])[-1:] if m[1] else [module] * bool(module)
+            found[(*owner, m[2])] = ": ".join([*owner, squeeze(text[m.start() : clauses_end(text, m.start())])])
     return found
 
 
 def types(folder):
-    found = {}
-    for path in sorted(folder.glob("src/**/*.rt")):
-        text = path.read_text(encoding="utf-8")
-        for m in re.finditer(r"^pub (?:struct|enum|trait) (\w+)[^{;]*\{.*?^\}|^pub (?:struct|type|enum) (\w+)[^\n]*;", text, re.M | re.S):
-            found[m[1] or m[2]] = squeeze(m[0])
-    return found
+    return {m[1] or m[2]: squeeze(m[0]) for _, text in sources(folder) for m in TYPE.finditer(text)}
+
+
+def handed(folder):
+    return {m[1]: squeeze(m[0]) for _, text in sources(folder) for m in HANDED.finditer(text)}
+
+
+def modules(folder, part):
+    """The modules of specs/ or proofs/ but those that only answer for a function or an invariant, each with its lines."""
+    for path in sorted(folder.glob(f"{part}/**/*.antt")):
+        if path.stem != "Lib" and not (part == "proofs" and path.stem in ("Answers", "Invariants")):
+            lines = path.read_text(encoding="utf-8").split("\n")
+            yield path.stem, [l for l in lines if l.strip() and not l.lstrip().startswith("--")]
+
+
+def extent(lines, i, indent, name):
+    """The first line behind a declaration's head, and the first behind its clauses."""
+    deeper = lambda k: k < len(lines) and lines[k].startswith(indent + " ")
+    head = i + 1
+    while deeper(head):
+        head += 1
+    end = head
+    while deeper(end) or end < len(lines) and re.match(rf"{indent}(unfolding|{re.escape(name)}) ", lines[end]) and not lines[end].startswith(f"{indent}{name} :"):
+        end += 1
+    return head, end
 
 
 def declared(folder, part):
+    """What specs/ or proofs/ declare as `pub`, by module and name: of a definition all its text, of a theorem what it states."""
     found = {}
-    for path in sorted(folder.glob(f"{part}/**/*.antt")):
-        if path.name in ("Answers.antt", "Invariants.antt", "Lib.antt"):
-            continue
-        text = re.sub(r"^\s*--[^\n]*\n", "", path.read_text(encoding="utf-8"), flags=re.M)
-        for m in re.finditer(r"^( *)((?:(?:abbrev|unfoldable) )?pub (?:record |data )?([^\s:({]+)\b.*?)(?=^\1(?:abbrev|unfoldable|pub|module|use|record|data)\b|^\1[^\s=()]+(?: [^\s=()]+)* : |^(?!\1)\S|\Z)", text, re.M | re.S):
-            head = m[2]
-            if head.startswith("pub use") or head.startswith("pub mod"):
-                continue
-            found[m[3]] = squeeze(re.sub(r"\s+", " ", head if part == "specs" else head.split("\n" + m[1] + m[3])[0]))
+    for module, lines in modules(folder, part):
+        around, i = [], 0
+        while i < len(lines):
+            m = HEAD.match(lines[i])
+            around = [(indent, of) for indent, of in around if not m or len(indent) < len(m[1])]
+            if m and not m[4]:
+                end = next(k for k in range(i, len(lines)) if lines[k].endswith("where")) + 1
+                around.append((m[1], squeeze(" ".join(lines[i:end]))[len("module _ ") : -len(" where")]))
+            elif m:
+                head, end = extent(lines, i, m[1], m[4])
+                if m[2]:
+                    whole = part == "specs" or m[3] or not lines[i].lstrip().startswith("pub ")
+                    text = squeeze(" ".join(lines[i : end if whole else head]))
+                    found[module, m[4]] = f"{module}: {text}" + " — of " * bool(around) + " ".join(of for _, of in around)
+            i = end if m else i + 1
     return found
 
 
@@ -85,7 +116,7 @@ def show(title, old, new, same=lambda a, b: a == b):
         if a == b:
             continue
         if a and b and same(a, b):
-            alike.append(name)
+            alike.append("::".join(name))
             continue
         lines += ([f"- {a}"] if a else []) + ([f"+ {b}"] if b else [])
     if alike:
@@ -94,21 +125,27 @@ def show(title, old, new, same=lambda a, b: a == b):
         print(f"{title}:\n\n```diff\n" + "\n".join(lines) + "\n```\n")
 
 
+def names(checkout):
+    """The names that the pages of a checkout mention, what this prints left out."""
+    pages = [checkout / "README.md", *checkout.glob("docs/**/*.md")]
+    return {w.rpartition("::")[2] for page in pages for w in WORDS.findall(page.read_text(encoding="utf-8").partition("\n## Old and new\n")[0])}
+
+
 def main():
     old, new = (pathlib.Path(a).resolve() for a in sys.argv[1:3])
-    named = {w.rpartition("::")[2] for page in [old / "README.md", *old.glob("docs/**/*.md")] for w in WORDS.findall(page.read_text(encoding="utf-8"))}
+    named = names(old) | names(new)
     crates = [line.split(":")[0].split()[0] for line in (new / "crates.txt").read_text(encoding="utf-8").splitlines() if line and not line.startswith("#")]
+    alike = lambda a, b: spelled(a) == spelled(b)
+    never = lambda a, b: False
     for crate in crates:
-        a, b = old / "crates" / crate, new / "crates" / crate
-        of = lambda get, *args: (get(a, *args), get(b, *args))
-        parts = [("Functions", *of(functions)), ("Types", *of(types)), ("Definitions", *of(declared, "specs"))]
-        theorems = [{n: t for n, t in d.items() if n in named} for d in of(declared, "proofs")]
-        if all(x == y for _, x, y in parts) and theorems[0] == theorems[1]:
-            continue
-        print(f"### {crate}\n")
-        for title, x, y in parts:
-            show(title, x, y, (lambda p, q: spelled(p) == spelled(q)) if title == "Definitions" else (lambda p, q: False))
-        show("Theorems that the pages name", *theorems, lambda p, q: spelled(p) == spelled(q))
+        both = [checkout / "crates" / crate for checkout in (old, new)]
+        theorems = [{k: text for k, text in declared(folder, "proofs").items() if k[1] in named} for folder in both]
+        parts = [("Functions", [functions(f) for f in both], never), ("Types", [types(f) for f in both], never), ("Constants and what is handed on", [handed(f) for f in both], never),
+                 ("Definitions", [declared(f, "specs") for f in both], alike), ("Theorems that the pages name", theorems, alike)]
+        if any(a != b for _, (a, b), _ in parts):
+            print(f"### {crate}\n")
+            for title, (a, b), same in parts:
+                show(title, a, b, same)
 
 
 if __name__ == "__main__":
