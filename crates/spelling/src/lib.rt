@@ -34,7 +34,7 @@ pub fn spell_bytes(acc: u64, bytes: &[u8]) -> u64
     r
 }
 
-// Bytes of a number, stored as read where they are stored.
+// Bytes of a number, stored as read where they are stored. No `copy_from_slice`: it would call memmove, which the library's users need not have.
 fn store_bytes(place: Option<u64>, bytes: &[u8], work: &mut [u8])
     requires { Room place (length bytes.now) (length work.old) }
     ensures { work.new ≡ stored_in place work.old bytes.now }
@@ -43,7 +43,9 @@ fn store_bytes(place: Option<u64>, bytes: &[u8], work: &mut [u8])
         None => {}
         Some(place) => {
             let at = place as usize;
-            work[at..at + bytes.len()].copy_from_slice(bytes);
+            for (k, &b) in bytes.iter().enumerate() {
+                work[at + k] = b;
+            }
         }
     }
 }

@@ -1,14 +1,11 @@
 -- Bytes stored as read: a word's four, and those that there are.
-use Prim.Native.Nat.{ℕ, suc, ◌+◌, ◌-◌, ◌*◌, ◌/◌, ◌%◌, ◌≤◌, ◌<◌}
-use mathlib.Core.Path.{◌≡◌, refl, sym, ◌∙◌}
+use Prim.Native.Nat.{ℕ, suc, ◌+◌, ◌*◌, ◌/◌, ◌%◌, ◌≤◌, ◌<◌}
+use mathlib.Core.Path.{◌≡◌, refl, ap, sym, ◌∙◌}
 use mathlib.Core.List.{List, [], ◌∷◌}
 use native.Mathlib.Omega.{arith}
-use borrow.Rule.Slice.PartMut.{put_mid}
-use lib.ListN.{length, get_or, take, drop, length-drop}
+use lib.ListN.{length, get_or, set, take, drop, drop_of_length-le}
 use lib.Seq.{drop-cons}
-use Rattle.std.proofs.lemmas.List.{append_assoc, drop-drop, take_rest}
 use Rattle.basics.specs.Put.{put_all}
-use Rattle.basics.proofs.Put.{put_between}
 use Rattle.fields.specs.Answers.{number_at}
 use Rattle.fields.proofs.Width.{word_law}
 use Rattle.walk_index.specs.Parts.{word_bytes}
@@ -40,10 +37,18 @@ module _ (s : List ℕ) (j : ℕ) (there : j + 4 ≤ length s) where
       digits (get_or s j 0) (get_or s (j + 1) 0) (get_or s (j + 2) 0) (get_or s (j + 3) 0) v (byte j) (byte (j + 1)) (byte (j + 2)) (byte (j + 3))
       (e ∙ sym (word_law s j _ _ _ _ there refl refl refl refl)) ∙ sym four
 
--- the bytes from `j` on, put over as many as they are
-pub put_over : (s : List ℕ) (i j n : ℕ) (work new : List ℕ) → new ≡ take (length s - j) (drop j s) → n ≡ length new → j ≤ length s → i + length s ≤ length work + j →
-    put_mid i n work new ≡ put_all work i (drop j s)
-put_over s i j n work new e en here room =
-    let same = e ∙ take_rest s j in
-    rw (same, en, same, drop-drop (length (drop j s)) i work, ← append_assoc (take i work) (drop j s) (drop (i + length (drop j s)) work))
-    (sym (put_between work i (drop j s) (omega (arith, length-drop j s))))
+-- after `k` of the bytes are stored, with the others what all of them leave
+module _ (bytes : List ℕ) where
+  abbrev pub Stores : ℕ → List ℕ → List ℕ → ℕ → Type 0
+  Stores i work₀ work k = put_all work (i + k) (drop k bytes) ≡ put_all work₀ i bytes
+
+  pub stores_next : (i : ℕ) (work₀ work : List ℕ) (k : ℕ) → k < length bytes → Stores i work₀ work k → Stores i work₀ (set work (i + k) (get_or bytes k 0)) (k + 1)
+  unfolding put_all
+  stores_next i work₀ work k h so =
+      let a : i + (k + 1) ≡ suc (i + k) = omega arith in
+      let b : k + 1 ≡ suc k = omega arith in
+      rw (a, b) (sym (ap (put_all work (i + k)) (drop-cons bytes k 0 h)) ∙ so)
+
+  pub stores_last : (i : ℕ) (work₀ work : List ℕ) (k : ℕ) → length bytes ≤ k → Stores i work₀ work k → work ≡ put_all work₀ i bytes
+  unfolding put_all
+  stores_last i work₀ work k h so = rw (drop_of_length-le bytes {i = k} h) at so

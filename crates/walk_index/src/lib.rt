@@ -226,13 +226,14 @@ fn copy_two(work: &mut [u8], i: usize, bytes: &[u8], j: usize)
     store_word(work, i + 4, w);
 }
 
-// The bytes that there are, stored as read.
+// The bytes that there are, stored as read. No `copy_from_slice`: it would call memmove, which the library's users need not have.
 fn store_rest(work: &mut [u8], i: usize, bytes: &[u8], j: usize)
     requires { (j ≤ length bytes.now) × (i + length bytes.now ≤ length work.old + j) }
     ensures { work.new ≡ put_all work.old i (drop j bytes.now) }
 {
-    let rest = &bytes[j..];
-    work[i..i + rest.len()].copy_from_slice(rest);
+    for (k, &b) in bytes[j..].iter().enumerate() {
+        work[i + k] = b;
+    }
 }
 
 // Whether an entry whose first word is there has size 0.

@@ -1,23 +1,28 @@
--- `spelling::store_bytes` meets its contract, by that of `copy_from_slice`, by the law `put_over`, and by the definitions of `Room` and `stored_in`.
+-- `spelling::store_bytes` meets its contract, by the laws `stores_next` and `stores_last`, and by the definitions of `Room` and `stored_in`.
 use native.Mathlib.Omega.{arith}
 use Rattle.spelling.specs.Together.{stored_in, Room}
-use Rattle.spelling.proofs.Loops.{put_over}
+use Rattle.spelling.proofs.Loops.{stores_next, stores_last}
 use Rattle.spelling.proofs.store_bytes.Goals as goal
 
-pub overflow_add-at : goal.overflow_add-at
+pub overflow_add-work : goal.overflow_add-work
 unfolding Room
-overflow_add-at c = let h = rw c.in-Some.is at c.requires in omega (arith, h)
+overflow_add-work c = let h = rw c.in-Some.is at c.requires in omega (arith, h)
 
-pub slice_bounds-copy_from_slice-end : goal.slice_bounds-copy_from_slice-end
+pub bounds-work-at : goal.bounds-work-at
 unfolding Room
-slice_bounds-copy_from_slice-end c = let h = rw c.in-Some.is at c.requires in omega (arith, h)
+bounds-work-at c = let h = rw c.in-Some.is at c.requires in omega (arith, h)
 
-pub returns-in-Some : goal.returns-in-Some
-unfolding Room stored_in
-returns-in-Some c =
-    let h = rw c.in-Some.is at c.requires in
-    rw c.in-Some.is (put_over _ _ _ _ _ c.copy_from_slice.ensures.after (omega arith) h)
+pub loop-k-preserved : goal.loop-k-preserved
+loop-k-preserved c =
+    let l = c.loop-k in
+    stores_next c.args.bytes.now c.in-Some.place c.args.work.now l.work l.k c.loop-k-test.true l.invariant
 
 pub returns-in-None : goal.returns-in-None
 unfolding stored_in
 returns-in-None c = rw c.in-None.is
+
+pub returns-after-loop-k : goal.returns-after-loop-k
+unfolding stored_in
+returns-after-loop-k c =
+    let l = c.loop-k in
+    rw c.in-Some.is (stores_last c.args.bytes.now c.in-Some.place c.args.work.now l.work l.k c.loop-k-test.false l.invariant)
