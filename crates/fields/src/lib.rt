@@ -130,7 +130,9 @@ fn large_head(bytes: &[u8], at: usize, end: usize, kind: u64) -> Result<Header, 
     if end < at + LONG {
         return Err(Halt::Bad(stop_at(5, at, at + SHORT)));
     }
-    let (size, _) = field_at(bytes, at + SHORT, 8).ok_or(Halt::Ended)?;
+    let Some((size, _)) = field_at(bytes, at + SHORT, 8) else {
+        return Err(Halt::Ended);
+    };
     checked(at, end, kind, size, LONG)
 }
 

@@ -149,17 +149,19 @@ pub fn inner_kind_flaw(depth: u64, kind: u64) -> Option<u64>
     }
 }
 
-// The lowest number that a header shows in a `traf` beyond its size; `track` says how far the `traf` has come.
+// The lowest number that a header shows in a `traf` beyond its size; `track` says how far the `traf` has come. The arms of one type stand
+// together, and each asks for the body's length itself: so no test is made twice.
 #[tactic(auto, using(crate::proofs::Places::traf_flaws), unfolding(basics::specs::Choose::pick, crate::specs::Flaws::numbered, state::specs::Rows::fresh, state::specs::Rows::headed_track, state::specs::Rows::body_length))]
 pub fn traf_flaw(track: TrafPhase, h: Header) -> Option<u64>
     ensures { result ≡ numbered (flaw_of (traf_faults track h)) }
 {
-    let body = body_length(h);
     match (h.kind, track) {
-        (TFHD | TFDT, _) if body < 8 => Some(6),
+        (TFHD, _) if body_length(h) < 8 => Some(6),
         (TFHD, TrafPhase::Fresh) => None,
+        (TFHD, _) => Some(16),
+        (TFDT, _) if body_length(h) < 8 => Some(6),
         (TFDT, TrafPhase::Headed { .. }) => None,
-        (TFHD | TFDT, _) => Some(16),
+        (TFDT, _) => Some(16),
         (TFAD, _) => Some(17),
         _ => None,
     }

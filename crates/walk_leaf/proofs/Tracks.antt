@@ -33,7 +33,7 @@ use Rattle.flaws.specs.Flaws.{flaw_of, numbered}
 use Rattle.flaws.proofs.Flaws.{Placed, flaw_none, flaw_some}
 use Rattle.flaws.proofs.Places.{traf_flaws}
 use Rattle.walk_leaf.specs.Views.{walked_d}
-use Rattle.walk_leaf.specs.Walks.{Headed, seen_at, gave_d, track_d}
+use Rattle.walk_leaf.specs.Walks.{Headed, TrackWalked, seen_at, gave_d, track_d}
 use Rattle.fields.specs.declared.Halt.TheVariants as halt
 
 -- a skipped body, from anywhere before its end
@@ -323,6 +323,31 @@ module _ (id : ℕ) (so : TrafSo) (base : ℕ) (s : List ℕ) (f : Flow) (at : �
       (pick_no _ _ _ (ne_eqb h.kind tfhd a) ∙ pick_no _ _ _ (ne_eqb h.kind tfdt b))
       ∙ gave_nothing so (base + h.pos + h.size) f (base + (at + h.head)) (drop (at + h.head) s)
       ∙ ap (λ (e : ℕ). from left base s f (skip_to so e) (at + h.head)) ends)
+
+-- a type that a `traf` does not know
+neither : (a b : Bool) → (a || b) ≡ false → (a ≡ false) × (b ≡ false)
+neither true b e = unlike e
+neither false b e = (refl, e)
+
+pub unknown : (kind : ℕ) → (eqb kind tfhd || eqb kind tfdt) ≡ false → (kind ≡ tfhd → ⊥) × (kind ≡ tfdt → ⊥)
+unknown kind e = let n = neither _ _ e in (eqb-false kind tfhd n.0, eqb-false kind tfdt n.1)
+
+-- a box that a `traf` does not know is passed where its bytes are there, and else the bytes end inside it
+module _ (id : ℕ) (so : TrafSo) (s : List ℕ) (at : ℕ) (h : Header) (head : Headed s at h) (no_tfhd : h.kind ≡ tfhd → ⊥) (no_tfdt : h.kind ≡ tfdt → ⊥) where
+  within : at + h.head ≤ at + h.size
+  within = let holds = head.holds in omega arith
+
+  pub other_passed : at + h.size ≤ length s → TrackWalked s id at h so (Ok so)
+  other_passed there = record {
+    right = λ base f. skip_over so base s f (at + h.head) (at + h.size) head.here within there ∙ track_other id so base s f at h head no_tfhd no_tfdt;
+    fixed = there;
+  }
+
+  pub other_cut : length s < at + h.size → TrackWalked s id at h so (Err halt.Ended)
+  other_cut gone = record {
+    right = λ base f. skip_cut so base s f (at + h.head) (at + h.size) head.here within gone ∙ track_other id so base s f at h head no_tfhd no_tfdt;
+    fixed = tt;
+  }
 
 -- a `tfhd` or a `tfdt` whose header shows no number has a body of 8 bytes
 pub body_eight : (t : TrafPhase) (h : Header) → (h.kind ≡ tfhd) ⊎ (h.kind ≡ tfdt) → h.head ≤ h.size → flaw_of (traf_faults t h) ≡ 0 → h.head + 8 ≤ h.size

@@ -2,7 +2,7 @@
 // byte lent, which may stand anywhere in the segment. No body that is skipped is looked at.
 #![tactic(auto)]
 
-ghost use Rattle.std.specs.Prelude.{◌≡◌, true, false, ℕ, ◌+◌, ◌≤◌, ◌<◌, length, Err};
+ghost use Rattle.std.specs.Prelude.{◌≡◌, true, false, ◌||◌, ℕ, ◌+◌, ◌≤◌, ◌<◌, eqb, length, Err};
 ghost use Rattle.segment.specs.Constants.{limit, tfhd, tfdt};
 ghost use Rattle.machine.specs.Heads.{box_end};
 ghost use Rattle.state.specs.Rows.{traf_faults};
@@ -171,6 +171,13 @@ fn flaw_stop(flaw: u64, track: TrafPhase, pos: usize, at: usize, end: usize, h: 
     stop_at(flaw, at, next)
 }
 
+// Whether a `traf` looks into boxes of a type.
+fn is_known(kind: u64) -> bool
+    ensures { result ≡ (eqb kind tfhd || eqb kind tfdt) }
+{
+    kind == TFHD || kind == TFDT
+}
+
 // The boxes of the `traf` at `pos`. Its list and a leaf's have loops of their own, and are not `list_walk`'s: what is known between two boxes
 // differs (`TrafSo`, `LeafSo`, `Seen`), and a header shows other numbers.
 fn traf_list(
@@ -195,7 +202,12 @@ fn traf_list(
         if let Some(flaw) = traf_flaw(so.track, h) {
             return Err(Halt::Bad(flaw_stop(flaw, so.track, pos, at, end, h)));
         }
-        so = track_box(id, bytes, at, h, so)?;
+        // Any other box is skipped here: what is known of the `traf` then stays where it is, and a skipped box takes a fifth less.
+        if is_known(h.kind) {
+            so = track_box(id, bytes, at, h, so)?;
+        } else {
+            skip_to(bytes, at + (h.size as usize))?;
+        }
         at += h.size as usize;
     }
     if !is_timed(so.track) {

@@ -5,6 +5,8 @@ use mathlib.Core.Bool.{Bool, true, false, not, ◌&&◌, ◌||◌}
 use native.Mathlib.Omega.{arith}
 use lib.Dec.{eqb, ltb}
 use borrow.Author.Tests.{eqb-true, eq-eqb, ltb-false}
+use Rattle.std.specs.Prelude.{Option, Some, None}
+use Rattle.std.specs.Option.{option_or}
 use Rattle.basics.specs.Choose.{pick}
 use Rattle.basics.proofs.Picks.{pick_no}
 use Rattle.segment.specs.Constants.{styp, sidx}
@@ -13,9 +15,19 @@ use Rattle.state.specs.Rows.{body_length, top_lengths, opening_faults, gap_fault
 use Rattle.fields.specs.Onward.{placed}
 use Rattle.flaws.specs.Flaws.{flaw_of}
 use Rattle.flaws.proofs.Flaws.{length_tests, length_or}
+use Rattle.flaws.proofs.Numbered.{apart}
 use Rattle.flaws.proofs.Places.{opening_flaws, gap_flaws}
 use Rattle.flaws.proofs.Told.{moved_length}
 use Rattle.walk_opening.specs.Steps.{StypLong}
+
+-- what a length shows goes before what a type shows, which is next where the length shows nothing
+pub length_kept : (x y : Option ℕ) {n : ℕ} → option_or x None ≡ Some n → Some n ≡ option_or x y
+length_kept None y e = absurd (apart e)
+length_kept (Some m) y e = sym e
+
+pub kind_next : (x y : Option ℕ) → option_or x None ≡ None → y ≡ option_or x y
+kind_next None y e = refl
+kind_next (Some m) y e = absurd (apart (sym e))
 
 -- where no number is shown, the length shows none
 length_none : (h : Header) (kind : ℕ) → length_or h kind ≡ 0 → flaw_of (top_lengths h) ≡ 0

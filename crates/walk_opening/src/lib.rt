@@ -78,7 +78,10 @@ fn opening_box(brand: u64, h: Header, bytes: &[u8], at: usize) -> Result<(), Hal
 fn opening_flaw(branded: bool, h: Header) -> Option<u64>
     ensures { result ≡ numbered (flaw_of (opening_faults branded h)) }
 {
-    top_flaw(h, opening_kind_flaw(branded, h.kind))
+    if let Some(flaw) = top_flaw(h, None) {
+        return Some(flaw);
+    }
+    opening_kind_flaw(branded, h.kind)
 }
 
 // The boxes up to the header of the top index; the limit works as the end of their container.

@@ -1,11 +1,10 @@
--- `walk_leaf::track_box` meets its contract, by those of `tfhd_box`, `tfdt_box` and `skip_to`, and by the laws `body_eight`, `skip_over`, `skip_cut` and `track_other`.
+-- `walk_leaf::track_box` meets its contract, by those of `tfhd_box`, `tfdt_box` and `skip_to`, and by the laws `body_eight`, `other_passed` and `other_cut`.
 use mathlib.Core.Path.{sym, ◌∙◌}
 use mathlib.Core.Logic.{inl, inr}
-use Prim.Native.Nat.{◌+◌, ◌≤◌}
-use native.Mathlib.Omega.{arith}
+use Prim.Native.Nat.{◌+◌}
 use Rattle.fields.proofs.Answers.{handed}
 use Rattle.reader.proofs.Skips.{skip_here, skip_gone}
-use Rattle.walk_leaf.proofs.Tracks.{skip_over, skip_cut, body_eight, track_other}
+use Rattle.walk_leaf.proofs.Tracks.{body_eight, other_passed, other_cut}
 use Rattle.walk_leaf.proofs.track_box.Goals as goal
 
 pub tfhd_box-requires : goal.tfhd_box-requires
@@ -26,29 +25,12 @@ returns-then-h-eq-TFDT c = c.tfdt_box.ensures c.args.id
 pub returns-in_err-skip_to : goal.returns-in_err-skip_to
 returns-in_err-skip_to c =
     let a = c.args in
-    let s = a.bytes.now in
-    let (head, none) = c.requires in
-    let holds = head.holds in
-    let within : a.at + a.h.head ≤ a.at + a.h.size = omega arith in
-    let gone = skip_gone s (a.at + a.h.size) (sym c.skip_to.ensures ∙ c.in_err-skip_to.was) in
-    rw (handed c.from_residual.ensures.1, gone.0) (record {
-      right = λ base f.
-          skip_cut a.so base s f (a.at + a.h.head) (a.at + a.h.size) head.here within gone.1
-          ∙ track_other a.id a.so base s f a.at a.h head c.if-h-eq-TFHD.false c.if-h-eq-TFDT.false;
-      fixed = tt;
-    })
+    let gone = skip_gone a.bytes.now (a.at + a.h.size) (sym c.skip_to.ensures ∙ c.in_err-skip_to.was) in
+    rw (handed c.from_residual.ensures.1, gone.0)
+    (other_cut a.id a.so a.bytes.now a.at a.h c.requires.0 c.if-h-eq-TFHD.false c.if-h-eq-TFDT.false gone.1)
 
 pub returns : goal.returns
 returns c =
     let a = c.args in
-    let s = a.bytes.now in
-    let (head, none) = c.requires in
-    let holds = head.holds in
-    let within : a.at + a.h.head ≤ a.at + a.h.size = omega arith in
-    let there = skip_here s (a.at + a.h.size) (sym c.skip_to.ensures ∙ c.in_ok-skip_to.was) in
-    record {
-      right = λ base f.
-          skip_over a.so base s f (a.at + a.h.head) (a.at + a.h.size) head.here within there
-          ∙ track_other a.id a.so base s f a.at a.h head c.if-h-eq-TFHD.false c.if-h-eq-TFDT.false;
-      fixed = there;
-    }
+    let there = skip_here a.bytes.now (a.at + a.h.size) (sym c.skip_to.ensures ∙ c.in_ok-skip_to.was) in
+    other_passed a.id a.so a.bytes.now a.at a.h c.requires.0 c.if-h-eq-TFHD.false c.if-h-eq-TFDT.false there

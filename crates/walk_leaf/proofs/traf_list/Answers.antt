@@ -5,7 +5,7 @@ use mathlib.Core.Path.{◌≡◌, refl, ap, sym, ◌∙◌}
 use mathlib.Core.List.{List}
 use native.Mathlib.Omega.{arith}
 use lib.ListN.{length}
-use Rattle.std.specs.Prelude.{Result, Ok}
+use Rattle.std.specs.Prelude.{Result, Ok, None}
 use Rattle.machine.specs.declared.Header.{Header}
 use Rattle.state.specs.declared.Seen.{Seen}
 use Rattle.state.specs.declared.TrafSo.{TrafSo}
@@ -13,13 +13,15 @@ use Rattle.state.specs.Rows.{traf_faults}
 use Rattle.fields.specs.Answers.{head_at}
 use Rattle.fields.specs.declared.Halt.{Halt}
 use Rattle.fields.proofs.Answers.{head_in, handed}
-use Rattle.flaws.specs.Flaws.{flaw_of}
+use Rattle.reader.proofs.Skips.{skip_here, skip_gone}
+use Rattle.flaws.specs.Flaws.{flaw_of, numbered}
 use Rattle.flaws.proofs.Numbered.{some_number, no_number}
 use Rattle.flaws.proofs.Places.{traf_beyond}
-use Rattle.walk_leaf.specs.Walks.{Headed, WalkFixed, flaw_stop, TrafWalked}
+use Rattle.walk_leaf.specs.Walks.{Headed, WalkFixed, TrackWalked, flaw_stop, TrafWalked}
 use Rattle.walk_leaf.proofs.Loops.{head_fixed, head_headed, stays_fixed, over_fixed, halt_fixed}
 use Rattle.walk_leaf.proofs.Trafs.{TrafFrom, traf_head, traf_flawed, traf_stays, traf_over, traf_lacks, traf_ends_lem, flaw_few, flaw_stop_in, traf_walked}
-use Rattle.walk_leaf.proofs.traf_list.Goals.{In_ok-h}
+use Rattle.walk_leaf.proofs.Tracks.{unknown, other_passed, other_cut}
+use Rattle.walk_leaf.proofs.traf_list.Goals.{In_ok-h, then-is_known+in_ok-so, else-is_known+in_ok-skip_to}
 use Rattle.walk_leaf.proofs.traf_list.Goals as goal
 
 -- past a header that was read
@@ -63,6 +65,16 @@ module _ (c : In_ok-h) where
   -- what is right from here on is right for the `traf`
   whole : (r : Result Seen Halt) → TrafFrom id s pos end at so r → WalkFixed s end r → TrafWalked s id pos c.args.from end c.args.seen r
   whole r d g = traf_walked id s pos _ end _ r (c.loop-at.invariant.3 r d) g
+
+  -- a box that was passed, and what is then known
+  abbrev Passed : TrafSo → Type 0
+  Passed next = (at + h.size ≤ length s) × ((r : Result Seen Halt) → TrafFrom id s pos end (at + h.size) next r → TrafFrom id s pos end at so r)
+
+  passed : {r : Result TrafSo Halt} {next : TrafSo} → numbered (flaw_of (traf_faults so.track h)) ≡ None → TrackWalked s id at h so r → r ≡ Ok next → Passed next
+  passed none walked e = (
+    over_fixed s _ e walked.fixed,
+    λ r d. traf_over id s pos end at so here before read headed (no_number _ none) walked e r d,
+  )
 
 pub loop-at-init : goal.loop-at-init
 loop-at-init c = (omega arith, c.requires.1, c.requires.3, λ r d. d)
@@ -111,6 +123,26 @@ returns-in_err-so c =
     c.track_box.ensures _ c.in_err-so.was)
     (stays_fixed _ (end k) (within k) _ (halt_fixed (s k) _ c.in_err-so.was c.track_box.ensures.fixed)))
 
+pub returns-in_err-skip_to : goal.returns-in_err-skip_to
+returns-in_err-skip_to c =
+    let k = (goal.at.returns-in_err-skip_to c).In_ok-h in
+    let u = unknown (h k).kind (sym c.is_known.ensures ∙ c.if-is_known.false) in
+    let gone = skip_gone (s k) _ (sym c.skip_to.ensures ∙ c.in_err-skip_to.was) in
+    let cut = other_cut (id k) (so k) (s k) (at k) (h k) (headed k) u.0 u.1 gone.1 in
+    rw (handed c.from_residual-in_err-skip_to.ensures.1, gone.0)
+    (whole k _
+    (traf_stays (id k) (s k) (pos k) (end k) (at k) (so k) (here k) (before k) (read k) (headed k) (no_number _ (sym c.traf_flaw.ensures ∙ c.in_default.is))
+    cut _ refl)
+    tt)
+
+pub overflow_add-at-in-loop-at : goal.overflow_add-at-in-loop-at
+overflow_add-at-in-loop-at c =
+    let k = (goal.at.overflow_add-at-in-loop-at c).In_ok-h in
+    let w = within k in
+    let far = (headed k).far in
+    let holds = (headed k).holds in
+    omega arith
+
 pub overflow_add-at : goal.overflow_add-at
 overflow_add-at c =
     let k = (goal.at.overflow_add-at c).In_ok-h in
@@ -133,14 +165,16 @@ loop-at-preserved c =
     let k = (goal.at.loop-at-preserved c).In_ok-h in
     let l = c.loop-at in
     let w = within k in
-    let on = l.invariant.0 in (
-      omega arith,
-      omega arith,
-      over_fixed (s k) _ c.in_ok-so.was c.track_box.ensures.fixed,
-      λ r d. l.invariant.3 r
-          (traf_over (id k) (s k) (pos k) (end k) (at k) (so k) (here k) (before k) (read k) (headed k) (no_number _ (sym c.traf_flaw.ensures ∙ c.in_default.is))
-          c.track_box.ensures c.in_ok-so.was r d),
-    )
+    let on = l.invariant.0 in
+    let p : Passed k c.if-is_known.so =
+    elim c.if-is_known.branch [
+      | then-is_known+in_ok-so w ↦ rw w.so-is (passed k (sym c.traf_flaw.ensures ∙ c.in_default.is) w.track_box.ensures w.in_ok-so.was)
+      | else-is_known+in_ok-skip_to w ↦
+          let u = unknown (h k).kind (sym c.is_known.ensures ∙ w.if-is_known.false) in
+          let there = skip_here (s k) _ (sym w.skip_to.ensures ∙ w.in_ok-skip_to.was) in
+          rw w.so-is (passed k (sym c.traf_flaw.ensures ∙ c.in_default.is) (other_passed (id k) (so k) (s k) (at k) (h k) (headed k) u.0 u.1 there) refl)
+    ] in
+    (omega arith, omega arith, p.0, λ r d. l.invariant.3 r (p.1 r d))
 
 pub returns-then-not-is_timed : goal.returns-then-not-is_timed
 returns-then-not-is_timed c =
