@@ -17,7 +17,8 @@ refusal alone. So two things are read:
 A row is `crate`: `edit`, `edit` | wrong answers | refused in. In the last column each edit has its part, parted by `;`, or one part
 holds for all. A part names functions of the crate, or a module and its theorems; each of them has to be refused by itself:
 
-- a function: what it returns, or what its loop keeps, is refused in its own proof file, or `search` does not prove it there;
+- a function: what it returns, the invariant of what it makes, or what its loop keeps, is refused in its own proof file, or `search` does not prove
+  it there;
 - a theorem: an error at it in its module.
 
 An error that says only that something else was not admitted does not count, and neither does one that says only that a name is gone (a
@@ -38,8 +39,8 @@ ERROR = re.compile(r"^(?:\./)?(\S*?):\d+:\d+: error: (?:`([^`]+)`: )?(.*)$")
 FUNCTION = re.compile(r"^fn (\S+): (.*)$")
 FOLLOWS = re.compile(r"^`[^`]+` (was not admitted|cannot be unfolded because it was not admitted)|^\d+ declarations? that depends? on ")
 UNPROVED = "`search` did not prove "
-# The goals that speak of a function's answer: what it returns, and what a loop keeps on the way to it.
-ANSWER = re.compile(r"returns(-.*)?|loop-.*|.*-(init|preserved)(-\d+)?")
+# The goals that speak of a function's answer: what it returns, the invariant of what it makes, and what a loop keeps on the way to it.
+ANSWER = re.compile(r"returns(-.*)?|invariant_of-.*|loop-.*|.*-(init|preserved)(-\d+)?")
 # What a log says where a name, a case or a field that a proof or a definition names does not stand.
 GONE = ("is not in scope", "has no field", "has no `", "that can be named from here", "has no clause")
 # What `rt ci` says of an edit, and how that begins where the refusal says little.

@@ -42,7 +42,8 @@ pub fn same_bytes(a: &[u8], b: &[u8]) -> bool
 pub fn same_numbers(v: &[u64], w: &[u64], n: usize) -> bool
     ensures { (result ≡ true) ↔ SameNumbers v.now w.now n }
 {
-    v.len() == w.len() && v[..least(n, v.len())] == w[..least(n, w.len())]
+    let most = least(n, v.len());
+    v.len() == w.len() && v[..most] == w[..most]
 }
 
 // The first n bytes of one level's part of the work area.

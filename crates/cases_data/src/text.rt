@@ -3,6 +3,7 @@ ghost use Rattle.std.specs.Prelude.{min, ◌≡◌};
 ghost use Rattle.cases_data.specs.Parts.{bytes_from};
 
 // The bytes from one place up to another; none where that is no part.
+#[tactic(auto, unfolding(crate::specs::Parts::bytes_from, basics::specs::Choose::pick))]
 pub fn part(text: &[u8], from: usize, to: usize) -> &[u8]
     ensures { result.now ≡ bytes_from text.now from to }
 {

@@ -188,7 +188,7 @@ impl LeafList {
     }
 
     // A refusal at a byte inside the leaf: where that byte is its last, what the leaf lacks is shown beside it.
-    #[tactic(auto, using(crate::proofs::Laws::lacks_beside))]
+    #[tactic(auto, using(crate::proofs::Laws::lacks_beside), unfolding(basics::specs::Choose::pick, lists::specs::Listed::lower))]
     fn worse_in_leaf(&self, so: LeafSo, x: Refusal, n: u64) -> Refusal
         ensures { (f : Flow) → RoomIs self.now.full f → result ≡ lowest x (pick (eqb n self.now.slot.end) (leaf_lacks self.now.slot so (left f)) []) }
     {

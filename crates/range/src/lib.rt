@@ -416,7 +416,7 @@ pub fn in_range(s: State) -> bool
             stage,
             ..
         } => counts_fit(LIMIT, count, leaves) & stage_fits(stage, now),
-        State::Ended { count, leaves, top } => accepted_in_range(count, leaves, top),
+        State::Ended { count, leaves, top } => counts_fit(LIMIT, count, leaves) & top_fits(top),
         State::Accepted { count, leaves, top } => accepted_in_range(count, leaves, top),
         State::Refused {
             count,

@@ -29,7 +29,7 @@ pub fn gap_walk(bytes: &[u8], from: usize, end: usize) -> Result<(), Halt>
     while at < end {
         let h = read_head(bytes, at, end)?;
         if let Some(flaw) = top_flaw(h, gap_kind_flaw(h.kind)) {
-            return Err(Halt::Bad(stop_at(flaw, at, at + (h.head as usize))));
+            return Err(Halt::Bad(stop_at(flaw, at, at + (h.head as usize)))); // of the gap
         }
         at += h.size as usize;
         skip_to(bytes, at)?;

@@ -1,4 +1,4 @@
--- `range::in_range` meets its contract, by those of `counts_fit`, `stage_fits`, `refused_fits` and `accepted_in_range`, by the law `joined`, and by the definition of `bounds`.
+-- `range::in_range` meets its contract, by those of `counts_fit`, `stage_fits`, `top_fits`, `refused_fits` and `accepted_in_range`, by the law `joined`, and by the definition of `bounds`.
 use Rattle.state.specs.Ranges.{bounds}
 use Rattle.range.proofs.Joined.{joined}
 use Rattle.range.proofs.in_range.Goals as goal
@@ -13,8 +13,8 @@ returns-in-Refused c = rw c.in-Refused.is c.refused_fits.ensures
 
 pub returns-in-Ended : goal.returns-in-Ended
 unfolding bounds
-returns-in-Ended c = rw c.in-Ended.is c.accepted_in_range.ensures
+returns-in-Ended c = rw c.in-Ended.is (joined _ _ c.counts_fit-in-Ended.ensures c.top_fits.ensures)
 
 pub returns-in-Accepted : goal.returns-in-Accepted
 unfolding bounds
-returns-in-Accepted c = rw c.in-Accepted.is c.accepted_in_range-in-Accepted.ensures
+returns-in-Accepted c = rw c.in-Accepted.is c.accepted_in_range.ensures

@@ -1,5 +1,5 @@
 -- `walk_leaf::full_leaf` meets its contract, by those of `read_head`, `leaf_flaw` and `stop_at`, and by the laws `full_head` and `full_shown`.
-use Prim.Native.Nat.{ℕ, ◌≤◌}
+use Prim.Native.Nat.{ℕ, ◌≤◌, ◌+◌}
 use mathlib.Core.Path.{◌≡◌, refl, ap, sym, ◌∙◌}
 use mathlib.Core.Bool.{Bool, true, false}
 use Rattle.std.specs.Prelude.{Option, Some, None, unwrap_or}
@@ -8,6 +8,7 @@ use lib.Dec.{eqb}
 use native.Mathlib.Omega.{arith}
 use borrow.Author.Tests.{eqb-false}
 use Rattle.flaws.specs.Flaws.{numbered}
+use Rattle.fields.specs.Answers.{stop_at}
 use Rattle.fields.proofs.Answers.{head_in}
 use Rattle.walk_leaf.specs.Walks.{leaf_flaw}
 use Rattle.walk_leaf.proofs.Loops.{head_headed}
@@ -49,7 +50,8 @@ returns-in-Ok c id last =
     let h = c.in-Ok.h in
     let e = sym c.read_head.ensures ∙ c.in-Ok.is in
     let shown = c.unwrap_or-flaw.ensures ∙ ap (λ (x : Option ℕ). unwrap_or x 15) c.leaf_flaw.ensures ∙ or_full (leaf_flaw false h) in
-    let told = c.stop_at.ensures in
+    let told : c.stop_at.result ≡ stop_at c.unwrap_or-flaw.result a.at (a.at + h.head) =
+    c.stop_at.ensures ∙ ap (stop_at c.unwrap_or-flaw.result a.at) (omega arith) in
     let full = some_full (leaf_flaw false h) (flaw_nine false h) in
     rw told
     (full_shown id s a.at a.end last c.requires.2 c.requires.0 e (head_headed s a.at a.end c.requires.1 e) (head_in s a.at a.end h e).within _

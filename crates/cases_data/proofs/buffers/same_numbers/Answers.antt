@@ -11,5 +11,5 @@ returns-then-v-w c =
     let w = c.args.w.now in
     let n = c.args.n in
     let told : (c.eq.result ≡ true) ↔ (take n v ≡ take n w) =
-    rw (← take_min n v, ← take_min n w, ← c.least.ensures, ← c.least-then-v-w.ensures) (slice_eq-Decides Decides-eqb _ _ _ c.eq.ensures) in
+    rw (← take_min n v, ← take_min n w, ← c.if-v-w.true, ← c.least-most.ensures) (slice_eq-Decides Decides-eqb _ _ _ c.eq.ensures) in
     (λ t. (c.if-v-w.true, told.0 t), λ same. told.1 same.1)
