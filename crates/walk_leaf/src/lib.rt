@@ -202,7 +202,8 @@ fn traf_list(
         if let Some(flaw) = traf_flaw(so.track, h) {
             return Err(Halt::Bad(flaw_stop(flaw, so.track, pos, at, end, h)));
         }
-        // Any other box is skipped here: what is known of the `traf` then stays where it is, and a skipped box takes a fifth less.
+        // Any other box is skipped here, so that what is known of the `traf` stays where it is. Tried with `track_box` alone, which skips it
+        // too: each box then puts it together again, and 256 leaves take 4,600 instructions more.
         if is_known(h.kind) {
             so = track_box(id, bytes, at, h, so)?;
         } else {
