@@ -1,18 +1,19 @@
 -- Laws of what a call says and leaves: what is written into the slot; a state found or not; a state packed over the numbers of another.
 use Rattle.std.specs.Prelude.{Result, Ok, Err}
-use Prim.Native.Nat.{ℕ}
+use Prim.Native.Nat.{ℕ, ◌≤◌}
 use mathlib.Core.Path.{◌≡◌, refl, sym, ap, ◌∙◌}
 use mathlib.Core.List.{List, [], ◌∷◌, ◌++◌}
 use mathlib.Core.Bool.{Bool, true, false}
 use mathlib.Core.Option.{Option, some, none}
 use lib.Dec.{eqb}
 use lib.ListN.{length, set}
-use borrow.Author.Tests.{eq-eqb, ne_eqb}
+use borrow.Author.Tests.{eq-eqb, ne_eqb, le-ltb}
 use Rattle.std.specs.Prelude.{Result, Ok, Err}
 use Rattle.basics.specs.Choose.{pick}
 use Rattle.basics.specs.Put.{put_all}
 use Rattle.machine.specs.declared.Refusal.{Refusal}
 use Rattle.state.specs.declared.State.{State}
+use Rattle.state.specs.Calls.{Out, out, feed_of, Finished, finished, finish_of}
 use Rattle.numbered.specs.Numbers.{numbers_of, state_numbers}
 use Rattle.numbered.specs.Unpacked.{unpack_of, pack_of}
 use Rattle.numbered.proofs.Lengths.{numbers_length}
@@ -21,9 +22,9 @@ use Rattle.pack.specs.Pack.{unpacked, unpack_answer}
 use Rattle.lookup.specs.Spots.{Spots, OnRecord, answer_at}
 use Rattle.moment.specs.declared.Request.TheVariants as request
 use Rattle.marks.specs.declared.Mark.{Mark}
-use Rattle.mazurlot.specs.Answers.{said, of_lookup, of_mark, slot_after}
+use Rattle.mazurlot.specs.Answers.{said, of_count, of_lookup, of_mark, slot_after}
 use Rattle.mazurlot.specs.Accepted.{refused_with}
-use Rattle.mazurlot.specs.Calls.{call, look_from, resolved_from}
+use Rattle.mazurlot.specs.Calls.{call, saying, fed_from, feed_call, finished_from, finish_call, look_from, resolved_from}
 use Rattle.covering.specs.declared.Leaf.{Leaf}
 
 -- 2 writes nothing; any other number its values
@@ -76,6 +77,36 @@ packed_in ns next e = rw (eq-eqb (length ns) state_numbers e)
 
 pub packed_over : (ns : List ℕ) (s next : State) → unpack_of ns ≡ some s → pack_of next ns ≡ numbers_of next
 packed_over ns s next e = packed_in ns next (ap length (unpacked_is ns s e).0 ∙ numbers_length s)
+
+-- what feed and finish leave of a state that was found, where what is said is the answer
+module _ (ns slot : List ℕ) (r : Result State Refusal) (answered : r ≡ unpack_answer ns) (s : State) (is : r ≡ Ok s) (room : 1 ≤ length slot) where
+  pub fed_call :
+      (piece work table : List ℕ) (a : Result ℕ Refusal) (next : State) (work' table' : List ℕ) → out a next work' table' ≡ feed_of s piece work table
+      → (ns' : List ℕ) → ns' ≡ pack_of next ns
+      → (b : Result ℕ Refusal) (n : ℕ) (slot' : List ℕ) → (n ≡ (of_count b).number) × (slot' ≡ slot_after (of_count b) slot)
+      → a ≡ b
+      → call n slot' ns' work' table' ≡ feed_call piece ns work table slot
+  unfolding feed_call fed_from pick
+  fed_call piece work table a next work' table' fed ns' packed b n slot' told same =
+      let found = was_found ns r answered s is in
+      rw (le-ltb _ _ room, found)
+      (same_call told.0 told.1 (packed ∙ packed_over ns s next found)
+      ∙ ap (λ (q : Result ℕ Refusal). saying (of_count q) slot (numbers_of next) work' table') (sym same)
+      ∙ ap (λ (o : Out (Result ℕ Refusal)). saying (of_count o.answer) slot (numbers_of o.state) o.work o.table) fed)
+
+  pub finished_call :
+      (a : Result ℕ Refusal) (next : State) → finished a next ≡ finish_of s
+      → (ns' : List ℕ) → ns' ≡ pack_of next ns
+      → (b : Result ℕ Refusal) (n : ℕ) (slot' : List ℕ) → (n ≡ (of_count b).number) × (slot' ≡ slot_after (of_count b) slot)
+      → a ≡ b
+      → call n slot' ns' [] [] ≡ finish_call ns slot
+  unfolding finish_call finished_from pick
+  finished_call a next ended ns' packed b n slot' told same =
+      let found = was_found ns r answered s is in
+      rw (le-ltb _ _ room, found)
+      (same_call told.0 told.1 (packed ∙ packed_over ns s next found)
+      ∙ ap (λ (q : Result ℕ Refusal). saying (of_count q) slot (numbers_of next) [] []) (sym same)
+      ∙ ap (λ (o : Finished). saying (of_count o.answer) slot (numbers_of o.state) [] []) ended)
 
 -- a spot that stands for an answer lies on a record, and the answer is what it gives
 pub spot_told : (table : List ℕ) (a : Result Leaf Refusal) (s : Result ℕ ℕ) → Spots table a s → OnRecord table s × (answer_at table s ≡ a)

@@ -1,14 +1,11 @@
 -- `mazurlot::mazurlot_feed` meets its contract, by those of `unpack`, `feed`, `pack` and of what is said, and by the laws of what a call leaves (`Laws`).
-use Rattle.std.specs.Prelude.{ℕ, Result}
-use mathlib.Core.Path.{refl, ap, ◌∙◌}
+use mathlib.Core.Path.{refl, ◌∙◌}
+use native.Mathlib.Omega.{arith}
+use Rattle.std.proofs.Common.{rules}
 use borrow.Author.Tests.{lt-ltb, le-ltb}
 use Rattle.basics.specs.Choose.{pick}
-use Rattle.machine.specs.declared.Refusal.{Refusal}
-use Rattle.state.specs.Calls.{Out}
-use Rattle.numbered.specs.Numbers.{numbers_of}
-use Rattle.mazurlot.specs.Answers.{of_count}
-use Rattle.mazurlot.specs.Calls.{saying, fed_from, feed_call}
-use Rattle.mazurlot.proofs.Laws.{same_call, was_found, was_refused, packed_over}
+use Rattle.mazurlot.specs.Calls.{fed_from, feed_call}
+use Rattle.mazurlot.proofs.Laws.{same_call, was_refused, fed_call}
 use Rattle.mazurlot.proofs.mazurlot_feed.Goals as goal
 
 pub returns-then-answer-lt-ONE_VALUE : goal.returns-then-answer-lt-ONE_VALUE
@@ -20,11 +17,8 @@ unfolding feed_call fed_from pick
 returns-in_default c = rw (le-ltb _ _ c.if-answer-lt-ONE_VALUE.false, was_refused _ _ c.unpack.ensures _ c.in_default.is)
     (same_call c.say_nothing_fed.ensures.0 c.say_nothing_fed.ensures.1 refl)
 
+-- what is said is asked of `omega` and `search`, so that only its value counts, and not how it is written
 pub returns : goal.returns
-unfolding feed_call fed_from pick
 returns c =
-    let slot = c.args.answer.now in
-    let is = was_found _ _ c.unpack.ensures _ c.in-Ok.is in
-    rw (le-ltb _ _ c.if-answer-lt-ONE_VALUE.false, is)
-    (same_call c.say_count.ensures.0 c.say_count.ensures.1 (c.pack.ensures.1 ∙ packed_over _ _ _ is)
-    ∙ ap (λ (o : Out (Result ℕ Refusal)). saying (of_count o.answer) slot (numbers_of o.state) o.work o.table) c.feed-fed.ensures.fed)
+    let said = c.say_count.ensures in
+    fed_call _ _ _ c.unpack.ensures _ c.in-Ok.is c.if-answer-lt-ONE_VALUE.false _ _ _ _ _ _ _ c.feed-fed.ensures.fed _ c.pack.ensures.1 _ _ _ (omega arith ∙ said.0, said.1) (search rules)

@@ -1,13 +1,11 @@
 -- `mazurlot::mazurlot_finish` meets its contract, by those of `unpack`, `finish`, `pack` and `say_count`, and by the laws of what a call leaves (`Laws`).
-use mathlib.Core.Path.{ap, ◌∙◌}
-use mathlib.Core.List.{[]}
+use mathlib.Core.Path.{◌∙◌}
+use native.Mathlib.Omega.{arith}
+use Rattle.std.proofs.Common.{rules}
 use borrow.Author.Tests.{lt-ltb, le-ltb}
 use Rattle.basics.specs.Choose.{pick}
-use Rattle.state.specs.Calls.{Finished}
-use Rattle.numbered.specs.Numbers.{numbers_of}
-use Rattle.mazurlot.specs.Answers.{of_count}
-use Rattle.mazurlot.specs.Calls.{saying, finished_from, finish_call}
-use Rattle.mazurlot.proofs.Laws.{same_call, was_found, was_refused, packed_over}
+use Rattle.mazurlot.specs.Calls.{finished_from, finish_call}
+use Rattle.mazurlot.proofs.Laws.{was_refused, finished_call}
 use Rattle.mazurlot.proofs.mazurlot_finish.Goals as goal
 
 pub returns-then-answer-lt-ONE_VALUE : goal.returns-then-answer-lt-ONE_VALUE
@@ -18,11 +16,8 @@ pub returns-in_default : goal.returns-in_default
 unfolding finish_call finished_from pick
 returns-in_default c = rw (le-ltb _ _ c.if-answer-lt-ONE_VALUE.false, was_refused _ _ c.unpack.ensures _ c.in_default.is)
 
+-- what is said is asked of `omega` and `search`, so that only its value counts, and not how it is written
 pub returns : goal.returns
-unfolding finish_call finished_from pick
 returns c =
-    let slot = c.args.answer.now in
-    let is = was_found _ _ c.unpack.ensures _ c.in-Ok.is in
-    rw (le-ltb _ _ c.if-answer-lt-ONE_VALUE.false, is)
-    (same_call c.say_count.ensures.0 c.say_count.ensures.1 (c.pack.ensures.1 ∙ packed_over _ _ _ is)
-    ∙ ap (λ (o : Finished). saying (of_count o.answer) slot (numbers_of o.state) [] []) c.finish-finished.ensures)
+    let said = c.say_count.ensures in
+    finished_call _ _ _ c.unpack.ensures _ c.in-Ok.is c.if-answer-lt-ONE_VALUE.false _ _ c.finish-finished.ensures _ c.pack.ensures.1 _ _ _ (omega arith ∙ said.0, said.1) (search rules)
