@@ -2,8 +2,7 @@
 -- They hold of each type that a list is of, with the copies and the ghost members that come with it. That lifetimes which stand in such a type last over the
 -- call is asked of every caller, by no clause.
 use mathlib.Core.Path.{refl, sym, ◌∙◌}
-use Prim.Native.Nat.{ℕ}
-use mathlib.Core.List.{List, []}
+use mathlib.Core.List.{[]}
 use denote.RattleType.{RattleType}
 use denote.Param.Laws.{Laws, IsCopy}
 use mir.Syntax.{Dict}
@@ -13,7 +12,6 @@ use Rattle.lists.specs.declared.BodyList as BodyList
 use Rattle.basics.proofs.Outcomes.{left_inverse_equal}
 use contract.Lifetimes.{Lfts}
 use contract.BorrowLft.{◌⊑◌}
-use borrow.Fn.Kinds.{ParamKind, ResultKind, Dens, In, Out}
 use Rattle.basics.specs.Outcome.{Coincide, OneOutcome}
 use Rattle.state.specs.Calls.{flow_of}
 use Rattle.state.proofs.Views.{answer_of, answer_viewed}
@@ -32,11 +30,6 @@ use Rattle.lists.proofs.after_head.Reads as head-stated
 use Rattle.lists.proofs.list_byte.Kinds as byte-kinds
 use Rattle.lists.proofs.list_byte.Reads as byte-stated
 
--- of types that last over the call: a contract leaves out nothing that can be given, and allows one outcome
-pub record OneOutcomeOf (n : ℕ) (ps : List (ParamKind n)) (res : ResultKind n) (Last : Lfts n → Type 0) (Pre : In n ps) (Post : Out n ps res) : Type 0 where
-  pub asks_nothing : (κs : Lfts n) (given : Dens κs ps) → Last κs → Pre κs given
-  pub outcomes_coincide : Coincide n ps res Post
-
 -- of one list, what it lacks, refusal and count of bytes: one refusal
 pub beside_once : OneOutcome 0 beside-kinds.ps beside-kinds.r beside-stated.Pre beside-stated.Post
 beside_once = record { asks_nothing = λ κs given. tt; outcomes_coincide = λ κs given r r' left left' p q. (p ∙ sym q, refl) }
@@ -47,21 +40,21 @@ module _ (T U : RattleType) (tl : Laws T) (ul : Laws U) (tc : IsCopy T) (uc : Is
   Last κs = (κs.0 ⊑ T.lives) × (κs.1.0 ⊑ U.lives)
 
   -- of one end, count of bytes, body and what it gives: one step
-  pub skip_to_once : OneOutcomeOf 2 (skip-kinds.ps T U tl ul tc uc) (skip-kinds.r T U tl ul tc uc) Last
-      (skip-stated.Pre T U tl ul tc uc tg td ug ud) (skip-stated.Post T U tl ul tc uc tg td ug ud)
+  pub skip_to_once : OneOutcome 2 (skip-kinds.ps T U tl ul tc uc) (skip-kinds.r T U tl ul tc uc)
+      (λ κs given. Last κs → skip-stated.Pre T U tl ul tc uc tg td ug ud κs given) (skip-stated.Post T U tl ul tc uc tg td ug ud)
   skip_to_once = record { asks_nothing = λ κs given last. last; outcomes_coincide = λ κs given r r' left left' p q. (p ∙ sym q, refl) }
 
   -- of one list, what it lacks, what is known and given, and count of bytes: one answer
-  pub after_box_once : OneOutcomeOf 2 (after-kinds.ps T U tl ul tc uc) (after-kinds.r T U tl ul tc uc) Last
-      (after-stated.Pre T U tl ul tc uc tg td ug ud) (after-stated.Post T U tl ul tc uc tg td ug ud)
+  pub after_box_once : OneOutcome 2 (after-kinds.ps T U tl ul tc uc) (after-kinds.r T U tl ul tc uc)
+      (λ κs given. Last κs → after-stated.Pre T U tl ul tc uc tg td ug ud κs given) (after-stated.Post T U tl ul tc uc tg td ug ud)
   after_box_once = record { asks_nothing = λ κs given last. last; outcomes_coincide = λ κs given r r' left left' p q. (p ∙ sym q, refl) }
 
 -- of one answer after a box: one answer
 module _ (T U V : RattleType) (tl : Laws T) (ul : Laws U) (vl : Laws V) (tc : IsCopy T) (uc : IsCopy U) (vc : IsCopy V)
     (tg : Ghosts T.Denot) (td : Dict) (ug : Ghosts U.Denot) (ud : Dict) (vg : Ghosts V.Denot) (vd : Dict) where
-  pub next_box_once : OneOutcomeOf 3 (next-kinds.ps T U V tl ul vl tc uc vc) (next-kinds.r T U V tl ul vl tc uc vc)
-      (λ κs. (κs.0 ⊑ T.lives) × ((κs.1.0 ⊑ U.lives) × (κs.1.1.0 ⊑ V.lives)))
-      (next-stated.Pre T U V tl ul vl tc uc vc tg td ug ud vg vd) (next-stated.Post T U V tl ul vl tc uc vc tg td ug ud vg vd)
+  pub next_box_once : OneOutcome 3 (next-kinds.ps T U V tl ul vl tc uc vc) (next-kinds.r T U V tl ul vl tc uc vc)
+      (λ κs given. (κs.0 ⊑ T.lives) × ((κs.1.0 ⊑ U.lives) × (κs.1.1.0 ⊑ V.lives)) → next-stated.Pre T U V tl ul vl tc uc vc tg td ug ud vg vd κs given)
+      (next-stated.Post T U V tl ul vl tc uc vc tg td ug ud vg vd)
   next_box_once = record {
     asks_nothing = λ κs given last. last;
     outcomes_coincide = λ κs given r r' left left' p q.
@@ -78,8 +71,8 @@ module _ (T A B G W : RattleType) (tl : Laws T) (al : Laws A) (bl : Laws B) (gl 
   abbrev Lasting : Lfts 6 → Type 0
   Lasting κs = (κs.1.0 ⊑ T.lives) × ((κs.1.1.0 ⊑ A.lives) × ((κs.1.1.1.0 ⊑ B.lives) × ((κs.1.1.1.1.0 ⊑ G.lives) × (κs.1.1.1.1.1.0 ⊑ W.lives))))
 
-  pub after_body_once : OneOutcomeOf 6 (body-kinds.ps T A B G W tl al bl gl wl ac bc gc wc) (body-kinds.r T A B G W tl al bl gl wl ac bc gc wc) Lasting
-      (body-stated.Pre T A B G W tl al bl gl wl ac bc gc wc l ld ag ad bg bd gg gd wg wd)
+  pub after_body_once : OneOutcome 6 (body-kinds.ps T A B G W tl al bl gl wl ac bc gc wc) (body-kinds.r T A B G W tl al bl gl wl ac bc gc wc)
+      (λ κs given. Lasting κs → body-stated.Pre T A B G W tl al bl gl wl ac bc gc wc l ld ag ad bg bd gg gd wg wd κs given)
       (body-stated.Post T A B G W tl al bl gl wl ac bc gc wc l ld ag ad bg bd gg gd wg wd)
   after_body_once = record {
     asks_nothing = λ κs given last. last;
@@ -87,8 +80,8 @@ module _ (T A B G W : RattleType) (tl : Laws T) (al : Laws A) (bl : Laws B) (gl 
         (left_inverse_equal answer_of (answer_viewed _ r) (answer_viewed _ r') (p _ (flows _) ∙ sym (q _ (flows _))), refl);
   }
 
-  pub after_head_once : OneOutcomeOf 6 (head-kinds.ps T A B G W tl al bl gl wl ac bc gc wc) (head-kinds.r T A B G W tl al bl gl wl ac bc gc wc) Lasting
-      (head-stated.Pre T A B G W tl al bl gl wl ac bc gc wc l ld ag ad bg bd gg gd wg wd)
+  pub after_head_once : OneOutcome 6 (head-kinds.ps T A B G W tl al bl gl wl ac bc gc wc) (head-kinds.r T A B G W tl al bl gl wl ac bc gc wc)
+      (λ κs given. Lasting κs → head-stated.Pre T A B G W tl al bl gl wl ac bc gc wc l ld ag ad bg bd gg gd wg wd κs given)
       (head-stated.Post T A B G W tl al bl gl wl ac bc gc wc l ld ag ad bg bd gg gd wg wd)
   after_head_once = record {
     asks_nothing = λ κs given last. last;
